@@ -1,0 +1,67 @@
+// Why a call is refused: one enum for the whole library. specs/Refusal.antt has document 01's numbers and places.
+ghost use mathlib.Core.Path.{_≡_};
+ghost use Rattle.refusal.specs.Numbers.{numberOf, placeOf};
+
+// A refusal that has a place carries it: a byte of the frame from 0, or an argument from 1.
+pub enum Refusal {
+    ShortFrame,
+    UnknownOpcode,
+    WrongLength,
+    StrayBit(usize),
+    UnknownCode(usize),
+    ArgumentOutside(usize),
+    ResponseLength,
+    NoRoom,
+    NotHeld,
+    NotWellFormed,
+    BufferSize,
+    OutputShort,
+    NotAKind,
+    ReelCut,
+}
+
+impl Refusal {
+    // Document 01's number, 1 to 14.
+    pub fn number(self) -> u32
+        ensures { λ r. ⌜ r ≡ numberOf self ⌝ }
+    {
+        match self {
+            Refusal::ShortFrame => 1,
+            Refusal::UnknownOpcode => 2,
+            Refusal::WrongLength => 3,
+            Refusal::StrayBit(_) => 4,
+            Refusal::UnknownCode(_) => 5,
+            Refusal::ArgumentOutside(_) => 6,
+            Refusal::ResponseLength => 7,
+            Refusal::NoRoom => 8,
+            Refusal::NotHeld => 9,
+            Refusal::NotWellFormed => 10,
+            Refusal::BufferSize => 11,
+            Refusal::OutputShort => 12,
+            Refusal::NotAKind => 13,
+            Refusal::ReelCut => 14,
+        }
+    }
+
+    // Where: 0 for a refusal that has no place.
+    pub fn place(self) -> usize
+        ensures { λ r. ⌜ r ≡ placeOf self ⌝ }
+    {
+        match self {
+            Refusal::StrayBit(at) => at,
+            Refusal::UnknownCode(at) => at,
+            Refusal::ArgumentOutside(at) => at,
+            Refusal::ShortFrame => 0,
+            Refusal::UnknownOpcode => 0,
+            Refusal::WrongLength => 0,
+            Refusal::ResponseLength => 0,
+            Refusal::NoRoom => 0,
+            Refusal::NotHeld => 0,
+            Refusal::NotWellFormed => 0,
+            Refusal::BufferSize => 0,
+            Refusal::OutputShort => 0,
+            Refusal::NotAKind => 0,
+            Refusal::ReelCut => 0,
+        }
+    }
+}
