@@ -1,0 +1,5 @@
+pub mod Decimals
+pub mod Texts
+pub mod Signs
+pub mod Outcome
+pub mod Examples

@@ -1,0 +1,90 @@
+-- What the rows of the table have in common: one test, computed over all 39, and the laws that turn it into the rule of each row.
+-- Assumes nothing.
+use mathlib.Core.Path.{_≡_, refl, sym, ap, _∙_}
+use mathlib.Core.Bool.{Bool, true, false, _&&_}
+use mathlib.Core.List.{List, [], _∷_}
+use Prim.Native.Nat.{ℕ, zero, suc, _+_, _≤_, _<_}
+use native.Mathlib.Nat.{le-of-suc-le-suc, not-suc-le-zero, zero-add, suc-add, add-suc, add-zero}
+use native.Mathlib.Omega.{arith}
+use lib.Dec.{T, leb, eqb, leb→le, eqb→eq}
+use lib.ListN.{length, getD}
+use Rattle.frame.specs.Field.{sound, mask}
+use Rattle.frame.specs.Layout.{soundAll, layout, apart, apartAll, disjoint, tab, byteOf}
+use Rattle.frame.proofs.Fields.{both-left, both-right}
+use Rattle.frame.proofs.Puts.{puts-zero}
+use Rattle.table.specs.Number.{narrowOf, plainOf, narrowsOf, plainsOf}
+use Rattle.table.specs.Table.{rows, opOf, lenOf, countOf, numbersOf, opNumber, plainRow}
+use Rattle.table.specs.Laid.{laid, allLaid, slotsFrom, find, allFound}
+
+-- ---- the test
+
+pub right : T ((allLaid rows && slotsFrom 0 rows) && allFound rows 0 rows)
+unfolding allLaid laid slotsFrom allFound find soundAll sound disjoint apartAll apart mask narrowsOf narrowOf plainOf
+right = tt
+
+pub count : length rows ≡ 39
+count = refl
+
+-- ---- a row that passes it
+
+pub record Laid (r : List ℕ) : Type 0 where
+  pub least : 2 ≤ lenOf r
+  pub most : lenOf r ≤ 12
+  pub few : countOf r ≤ 9
+  pub inside : T (soundAll (lenOf r) (plainsOf (opNumber ∷ numbersOf r)))
+  pub apart-narrowed : T (layout (lenOf r) (narrowsOf (opNumber ∷ numbersOf r)))
+
+laid-is : (r : List ℕ) → T (laid r) → Laid r
+unfolding laid
+laid-is r t =
+    let sizes = both-left ((leb 2 (lenOf r) && leb (lenOf r) 12) && leb (countOf r) 9) (soundAll (lenOf r) (plainsOf (opNumber ∷ numbersOf r)) && layout (lenOf r) (narrowsOf (opNumber ∷ numbersOf r))) t in
+    let fields = both-right ((leb 2 (lenOf r) && leb (lenOf r) 12) && leb (countOf r) 9) (soundAll (lenOf r) (plainsOf (opNumber ∷ numbersOf r)) && layout (lenOf r) (narrowsOf (opNumber ∷ numbersOf r))) t in
+    let lens = both-left (leb 2 (lenOf r) && leb (lenOf r) 12) (leb (countOf r) 9) sizes in record {
+      least = leb→le _ _ (both-left (leb 2 (lenOf r)) (leb (lenOf r) 12) lens);
+      most = leb→le _ _ (both-right (leb 2 (lenOf r)) (leb (lenOf r) 12) lens);
+      few = leb→le _ _ (both-right (leb 2 (lenOf r) && leb (lenOf r) 12) (leb (countOf r) 9) sizes);
+      inside = both-left (soundAll (lenOf r) (plainsOf (opNumber ∷ numbersOf r))) (layout (lenOf r) (narrowsOf (opNumber ∷ numbersOf r))) fields;
+      apart-narrowed = both-right (soundAll (lenOf r) (plainsOf (opNumber ∷ numbersOf r))) (layout (lenOf r) (narrowsOf (opNumber ∷ numbersOf r))) fields;
+    }
+
+laid-at : (rs : List (List ℕ)) → T (allLaid rs) → (k : ℕ) → k < length rs → Laid (getD rs k [])
+unfolding allLaid
+laid-at [] t k h = absurd (not-suc-le-zero h)
+laid-at (r ∷ rs) t zero h = laid-is r (both-left (laid r) (allLaid rs) t)
+laid-at (r ∷ rs) t (suc k) h = laid-at rs (both-right (laid r) (allLaid rs) t) k (le-of-suc-le-suc h)
+
+found-at : (all : List (List ℕ)) (i : ℕ) (rs : List (List ℕ)) → T (allFound all i rs) → (k : ℕ) → k < length rs → find all (opOf (getD rs k [])) (lenOf (getD rs k [])) ≡ i + k
+unfolding allFound
+found-at all i [] t k h = absurd (not-suc-le-zero h)
+found-at all i (r ∷ rs) t zero h = eqb→eq _ _ (both-left (eqb (find all (opOf r) (lenOf r)) i) (allFound all (suc i) rs) t) ∙ sym (add-zero i)
+found-at all i (r ∷ rs) t (suc k) h =
+    found-at all (suc i) rs (both-right (eqb (find all (opOf r) (lenOf r)) i) (allFound all (suc i) rs) t) k (le-of-suc-le-suc h) ∙ suc-add i k ∙ sym (add-suc i k)
+
+-- ---- the rule of each row
+
+laid-part : T (allLaid rows)
+laid-part = both-left (allLaid rows) (slotsFrom 0 rows) (both-left (allLaid rows && slotsFrom 0 rows) (allFound rows 0 rows) right)
+
+found-part : T (allFound rows 0 rows)
+found-part = both-right (allLaid rows && slotsFrom 0 rows) (allFound rows 0 rows) right
+
+pub slots-in-order : T (slotsFrom 0 rows)
+slots-in-order = both-right (allLaid rows) (slotsFrom 0 rows) (both-left (allLaid rows && slotsFrom 0 rows) (allFound rows 0 rows) right)
+
+pub row-laid : (k : ℕ) → k < 39 → Laid (getD rows k [])
+row-laid k h = laid-at rows laid-part k h
+
+-- the search finds the row itself
+pub row-found : (k : ℕ) → k < 39 → find rows (opOf (getD rows k [])) (lenOf (getD rows k [])) ≡ k
+row-found k h = found-at rows 0 rows found-part k h ∙ zero-add k
+
+-- opcode and length determine the kind
+pub row-one : (j k : ℕ) → j < 39 → k < 39 → opOf (getD rows j []) ≡ opOf (getD rows k []) → lenOf (getD rows j []) ≡ lenOf (getD rows k []) → j ≡ k
+row-one j k h l p q = sym (row-found j h) ∙ ap (λ (n : ℕ). find rows n (lenOf (getD rows j []))) p ∙ ap (find rows (opOf (getD rows k []))) q ∙ row-found k l
+
+-- byte i of a plain builder's frame is all that the opcode and the arguments put there, ORed
+pub plain-is : (k : ℕ) → k < 39 → (vs : List ℕ) →
+    plainRow (getD rows k []) vs ≡ tab (lenOf (getD rows k [])) (byteOf (plainsOf (opNumber ∷ numbersOf (getD rows k []))) (opOf (getD rows k []) ∷ vs))
+plain-is k h vs =
+    let r = row-laid k h in
+    puts-zero (lenOf (getD rows k [])) (omega (arith, r .most)) (plainsOf (opNumber ∷ numbersOf (getD rows k []))) (opOf (getD rows k []) ∷ vs) (r .inside)

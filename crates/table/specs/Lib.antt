@@ -1,0 +1,4 @@
+pub mod Number
+pub mod Codes
+pub mod Table
+pub mod Laid

@@ -1,0 +1,397 @@
+// The command table: ONE constant of 39 rows that the plain builders, the checked builder, the decoder and the book read.
+// Its numbers are proved equal to document 01's rows in specs/Table.antt.
+ghost use mathlib.Core.Path.{_≡_};
+ghost use Rattle.frame.specs.Layout.{put};
+ghost use Rattle.table.specs.Number.{narrowOf, plainOf};
+ghost use Rattle.table.specs.Table.{rows, yesNo};
+use frame::Field;
+
+// The fields' numbers, named as document 01 writes their places: B2_7_4 is "2.7-4", W2_3 is "2-3", L3_10 is "3-10" low byte first.
+// _SF, _PBL, _CRC, _CAD, _BW: one of that list of codes; _TO9: no code above 9; _CUT3: narrowed to 3 bits.
+// In hex: the first byte; 8 for the low byte first, plus the low bit; two digits for the narrowed width; the bits that the plain
+// builder has more; three digits for the codes.
+const B2_0: u32 = 0x2001_0000;
+
+const B2_1_0: u32 = 0x2002_0000;
+
+const B2_1_0_TO2: u32 = 0x2002_0002;
+
+const B2_2_0: u32 = 0x2003_0000;
+
+const B2_3_0: u32 = 0x2004_0000;
+
+const B2_3_0_TO4: u32 = 0x2004_0004;
+
+const B2_4_0: u32 = 0x2005_0000;
+
+const W2: u32 = 0x2008_0000;
+
+const W2_3_CUT12: u32 = 0x200C_4000;
+
+const W2_3: u32 = 0x2010_0000;
+
+const W2_4: u32 = 0x2018_0000;
+
+const W2_5: u32 = 0x2020_0000;
+
+const W2_9: u32 = 0x2040_0000;
+
+const B2_5_2: u32 = 0x2204_0000;
+
+const B2_4: u32 = 0x2401_0000;
+
+const B2_5_4_TO2: u32 = 0x2402_0002;
+
+const B2_7_4_CUT3: u32 = 0x2403_1000;
+
+const B2_7_4_TO8: u32 = 0x2404_0008;
+
+const B2_7_4_SF: u32 = 0x2404_0100;
+
+const B2_7_6: u32 = 0x2602_0000;
+
+const B2_7_6_TO2: u32 = 0x2602_0002;
+
+const B2_7: u32 = 0x2701_0000;
+
+const B3_0: u32 = 0x3001_0000;
+
+const B3_1_0_TO1: u32 = 0x3002_0001;
+
+const B3_2_0: u32 = 0x3003_0000;
+
+const B3_3_0: u32 = 0x3004_0000;
+
+const B3_4_0: u32 = 0x3005_0000;
+
+const W3: u32 = 0x3008_0000;
+
+const W3_4: u32 = 0x3010_0000;
+
+const W3_5: u32 = 0x3018_0000;
+
+const B3_3_2: u32 = 0x3202_0000;
+
+const B3_4: u32 = 0x3401_0000;
+
+const B3_7_4_TO9: u32 = 0x3404_0009;
+
+const L3_10: u32 = 0x3840_0000;
+
+const B4_4_0: u32 = 0x4005_0000;
+
+const W4: u32 = 0x4008_0000;
+
+const W4_PBL: u32 = 0x4008_0101;
+
+const W4_CAD: u32 = 0x4008_0103;
+
+const B5_0: u32 = 0x5001_0000;
+
+const B5_1_0: u32 = 0x5002_0000;
+
+const B5_4_0: u32 = 0x5005_0000;
+
+const W5: u32 = 0x5008_0000;
+
+const W5_7: u32 = 0x5018_0000;
+
+const B5_1: u32 = 0x5101_0000;
+
+const B5_2: u32 = 0x5201_0000;
+
+const B5_3_2_TO2: u32 = 0x5202_0002;
+
+const B5_4_CUT0: u32 = 0x5400_1000;
+
+const B5_4: u32 = 0x5401_0000;
+
+const B6_1_0_TO2: u32 = 0x6002_0002;
+
+const B6_3_0: u32 = 0x6004_0000;
+
+const B6_4_0: u32 = 0x6005_0000;
+
+const W6_7: u32 = 0x6010_0000;
+
+const W6_9: u32 = 0x6020_0000;
+
+const B7_4_0: u32 = 0x7005_0000;
+
+const W7_BW: u32 = 0x7008_0104;
+
+const W7_9: u32 = 0x7018_0000;
+
+const B8_0: u32 = 0x8001_0000;
+
+const B8_2_0: u32 = 0x8003_0000;
+
+const B8_6_0: u32 = 0x8007_0000;
+
+const W8: u32 = 0x8008_0000;
+
+const W8_10: u32 = 0x8018_0000;
+
+const B8_4: u32 = 0x8401_0000;
+
+const B8_7_4_CRC: u32 = 0x8404_0102;
+
+const B9_3_0: u32 = 0x9004_0000;
+
+const B9_7_4: u32 = 0x9404_0000;
+
+const B10_6_0: u32 = 0xA007_0000;
+
+const W10: u32 = 0xA008_0000;
+
+const B10_7: u32 = 0xA701_0000;
+
+const W11: u32 = 0xB008_0000;
+
+// The slot of a command that is never kept.
+pub const ACTION: u32 = 255;
+
+// The opcode stands in bytes 0 and 1 of every frame.
+pub const OPCODE: u32 = 0x0010_0000;
+
+// Row k - 1 is kind k: opcode, length, slot, number of fields, and the fields in the Rust's argument order.
+pub const TABLE: [[u32; 13]; 39] = [
+    [
+        0x0220,
+        4,
+        0,
+        5,
+        B2_7_4_SF,
+        B2_3_0,
+        B3_7_4_TO9,
+        B3_1_0_TO1,
+        B3_3_2,
+        0,
+        0,
+        0,
+        0,
+    ],
+    [0x0221, 6, 1, 5, W2_3, W4, B5_2, B5_1, B5_0, 0, 0, 0, 0],
+    [0x0222, 4, 2, 2, W2, B3_0, 0, 0, 0, 0, 0, 0, 0],
+    [0x0223, 3, 3, 1, W2, 0, 0, 0, 0, 0, 0, 0, 0],
+    [0x0226, 8, 4, 4, B2_7, B2_2_0, W3_4, W5_7, 0, 0, 0, 0, 0],
+    [
+        0x0226,
+        12,
+        5,
+        9,
+        B2_7,
+        B2_2_0,
+        W3_4,
+        W5_7,
+        B8_6_0,
+        B9_7_4,
+        B9_3_0,
+        W10,
+        W11,
+    ],
+    [0x0227, 9, 6, 6, W2, B3_4, B3_3_0, W4_CAD, W5_7, W8, 0, 0, 0],
+    [0x0228, 2, ACTION, 0, 0, 0, 0, 0, 0, 0, 0, 0, 0],
+    [0x0229, 2, ACTION, 0, 0, 0, 0, 0, 0, 0, 0, 0, 0],
+    [0x022A, 2, ACTION, 0, 0, 0, 0, 0, 0, 0, 0, 0, 0],
+    [
+        0x022B,
+        11,
+        7,
+        3,
+        B2_7_4_TO8,
+        B2_3_0,
+        L3_10,
+        0,
+        0,
+        0,
+        0,
+        0,
+        0,
+    ],
+    [0x022D, 4, 8, 2, B2_4_0, B3_4_0, 0, 0, 0, 0, 0, 0, 0],
+    [
+        0x022E,
+        8,
+        9,
+        6,
+        B2_4_0,
+        B3_4_0,
+        B4_4_0,
+        B5_4_0,
+        B6_4_0,
+        B7_4_0,
+        0,
+        0,
+        0,
+    ],
+    [0x021D, 3, 10, 2, B2_7_6_TO2, B2_3_0, 0, 0, 0, 0, 0, 0, 0],
+    [
+        0x021D,
+        4,
+        11,
+        5,
+        B2_7_6,
+        B2_5_2,
+        B2_1_0,
+        B3_4,
+        B3_3_0,
+        0,
+        0,
+        0,
+        0,
+    ],
+    [0x0240, 11, 12, 4, W2_5, B6_3_0, W7_BW, W8_10, 0, 0, 0, 0, 0],
+    [
+        0x0241,
+        9,
+        13,
+        9,
+        W2_3,
+        W4_PBL,
+        B5_4,
+        B5_4_CUT0,
+        B5_3_2_TO2,
+        B5_1_0,
+        W6_7,
+        B8_7_4_CRC,
+        B8_0,
+    ],
+    [0x0242, 4, 14, 2, B2_4, W2_3_CUT12, 0, 0, 0, 0, 0, 0, 0],
+    [0x0243, 10, 15, 2, W2_5, W6_9, 0, 0, 0, 0, 0, 0, 0],
+    [0x0244, 11, 16, 3, W2_9, B10_7, B10_6_0, 0, 0, 0, 0, 0, 0],
+    [0x0245, 4, 17, 2, W2, W3, 0, 0, 0, 0, 0, 0, 0],
+    [0x0246, 2, ACTION, 0, 0, 0, 0, 0, 0, 0, 0, 0, 0],
+    [0x0247, 2, ACTION, 0, 0, 0, 0, 0, 0, 0, 0, 0, 0],
+    [0x0200, 6, 18, 1, W2_5, 0, 0, 0, 0, 0, 0, 0, 0],
+    [0x0201, 3, 19, 1, B2_0, 0, 0, 0, 0, 0, 0, 0, 0],
+    [0x0201, 4, 20, 2, B2_0, B3_2_0, 0, 0, 0, 0, 0, 0, 0],
+    [
+        0x0202,
+        4,
+        21,
+        4,
+        B2_7,
+        B2_1_0,
+        B2_7_4_CUT3,
+        B3_3_0,
+        0,
+        0,
+        0,
+        0,
+        0,
+    ],
+    [
+        0x0202,
+        5,
+        22,
+        5,
+        B2_7,
+        B2_1_0,
+        B2_7_4_CUT3,
+        B3_3_0,
+        B4_4_0,
+        0,
+        0,
+        0,
+        0,
+    ],
+    [0x020C, 5, ACTION, 1, W2_4, 0, 0, 0, 0, 0, 0, 0, 0],
+    [0x020D, 5, ACTION, 1, W2_4, 0, 0, 0, 0, 0, 0, 0, 0],
+    [0x020F, 3, 23, 1, B2_0, 0, 0, 0, 0, 0, 0, 0, 0],
+    [
+        0x0210,
+        9,
+        ACTION,
+        4,
+        W2_4,
+        W5_7,
+        B8_4,
+        B8_2_0,
+        0,
+        0,
+        0,
+        0,
+        0,
+    ],
+    [
+        0x0211,
+        10,
+        24,
+        4,
+        B2_7,
+        B2_1_0_TO2,
+        W3_5,
+        W6_9,
+        0,
+        0,
+        0,
+        0,
+        0,
+    ],
+    [0x0215, 8, 25, 2, W2_4, W5_7, 0, 0, 0, 0, 0, 0, 0],
+    [
+        0x0216,
+        3,
+        26,
+        2,
+        B2_5_4_TO2,
+        B2_3_0_TO4,
+        0,
+        0,
+        0,
+        0,
+        0,
+        0,
+        0,
+    ],
+    [0x0218, 5, ACTION, 1, W2_4, 0, 0, 0, 0, 0, 0, 0, 0],
+    [0x0218, 6, ACTION, 2, W2_4, W5, 0, 0, 0, 0, 0, 0, 0],
+    [0x021A, 3, 27, 1, B2_3_0, 0, 0, 0, 0, 0, 0, 0, 0],
+    [0x021B, 10, 28, 4, W2_4, W5, B6_1_0_TO2, W7_9, 0, 0, 0, 0, 0],
+];
+
+// The whole table, to be lent to what walks it.
+pub fn table() -> [[u32; 13]; 39]
+    ensures { λ r. ⌜ r ≡ rows ⌝ }
+{
+    TABLE
+}
+
+// A field as the checked builder and the decoder have it.
+pub fn narrow_field(number: u32) -> Field
+    ensures { λ r. ⌜ r ≡ narrowOf number ⌝ }
+{
+    Field {
+        first: (number / 0x1000_0000) as usize,
+        lo: (number / 0x100_0000 % 8) as usize,
+        w: (number / 0x1_0000 % 256) as usize,
+        le: number / 0x800_0000 % 2 == 1,
+    }
+}
+
+// A field as the plain builder has it.
+pub fn plain_field(number: u32) -> Field
+    ensures { λ r. ⌜ r ≡ plainOf number ⌝ }
+{
+    Field {
+        first: (number / 0x1000_0000) as usize,
+        lo: (number / 0x100_0000 % 8) as usize,
+        w: (number / 0x1_0000 % 256 + number / 0x1000 % 16) as usize,
+        le: number / 0x800_0000 % 2 == 1,
+    }
+}
+
+// The value v, cut to the field's plain width and ORed into the frame.
+pub fn put_plain(cmd: &mut [u8], number: u32, v: u64)
+    ensures { λ r. ⌜ now (cmd .exit) ≡ put (now (cmd .entry)) (plainOf number) v ⌝ }
+{
+    frame::put(cmd, plain_field(number), v)
+}
+
+// A yes is 1, a no is 0.
+pub fn yes_no(b: bool) -> u64
+    ensures { λ r. ⌜ r ≡ yesNo b ⌝ }
+{
+    if b { 1 } else { 0 }
+}
