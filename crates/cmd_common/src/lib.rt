@@ -8,6 +8,14 @@ use table::put_plain;
 use table::yes_no;
 
 mod cells;
+pub mod rsp;
+
+pub use rsp::CcaResultRead;
+pub use rsp::CcaResultRsp;
+pub use rsp::RssiInstRead;
+pub use rsp::RssiInstRsp;
+pub use rsp::TimestampValueRead;
+pub use rsp::TimestampValueRsp;
 
 // Receive path: low or high frequency.
 pub enum RxPath {

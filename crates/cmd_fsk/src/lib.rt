@@ -8,6 +8,12 @@ use table::put_plain;
 use table::yes_no;
 
 mod cells;
+pub mod rsp;
+
+pub use rsp::FskPacketStatusRead;
+pub use rsp::FskPacketStatusRsp;
+pub use rsp::FskRxStatsRead;
+pub use rsp::FskRxStatsRsp;
 
 // Pulse shaping filter: Gaussian (Bt), raised cosine (Rc), root raised cosine (Rrc).
 pub enum PulseShape {

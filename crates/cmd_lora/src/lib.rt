@@ -9,6 +9,12 @@ use table::put_plain;
 use table::yes_no;
 
 mod cells;
+pub mod rsp;
+
+pub use rsp::LoraPacketStatusRead;
+pub use rsp::LoraPacketStatusRsp;
+pub use rsp::LoraRxStatsRead;
+pub use rsp::LoraRxStatsRsp;
 
 // How two values compare.
 pub enum Ordering {

@@ -4,6 +4,7 @@
 -- and takes the bytes from `first` on, high byte first, or low byte first where `le`; its highest byte holds what is left of w.
 -- "2.7-4" is first 2, lo 4, w 4; "5-7" is first 5, lo 0, w 24; the low 12 bits of "2-3" are first 2, lo 0, w 12.
 -- Lists of fields are in specs/Layout.antt.
+-- Assumes nothing.
 use Prim.Native.Nat.{ℕ, zero, suc, _+_, _-_, _*_, _/_, _%_, _^_, _≤_, min}
 use mathlib.Core.Bool.{Bool, true, false, cond, _&&_}
 use lib.Dec.{leb, ltb}

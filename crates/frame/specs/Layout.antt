@@ -1,4 +1,5 @@
 -- The fields of a frame together: the bytes that their values give, the values that bytes hold, and the test of a layout.
+-- Assumes nothing.
 use Prim.Native.Nat.{ℕ, zero, suc, _%_, _^_}
 use mathlib.Core.Bool.{Bool, true, false, cond, _&&_}
 use mathlib.Core.List.{List, [], _∷_}

@@ -1,4 +1,5 @@
 -- The refusals' numbers and places. Document 01, "Refusal numbers".
+-- Assumes nothing.
 use Prim.Native.Nat.{ℕ}
 use Rattle.refusal.specs.declared.Refusal.{Refusal}
 use Rattle.refusal.specs.declared.Refusal.the-variants.{ShortFrame, UnknownOpcode, WrongLength, StrayBit, UnknownCode, ArgumentOutside, ResponseLength, NoRoom, NotHeld, NotWellFormed, BufferSize, OutputShort, NotAKind, ReelCut}

@@ -1,9 +1,9 @@
 -- The codes that an enum has, where they are not all from 0 to a limit. Document 01: "An enum's code is its number in the Rust."
-use Prim.Native.Nat.{ℕ}
+-- Assumes nothing.
+use Prim.Native.Nat.{ℕ, _-_}
 use mathlib.Core.Bool.{Bool, true, false, cond}
 use mathlib.Core.List.{List, [], _∷_}
 use lib.Dec.{eqb, leb, ltb}
-use Prim.Native.Nat.{_-_}
 use lib.ListN.{getD}
 
 -- the lists, by number

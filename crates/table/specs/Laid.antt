@@ -1,4 +1,5 @@
 -- What every row of the table keeps to, as tests that are computed over all 39, and the search for a row.
+-- Assumes nothing.
 use Prim.Native.Nat.{ℕ, suc}
 use mathlib.Core.Bool.{Bool, true, false, cond, _&&_}
 use mathlib.Core.List.{List, [], _∷_}

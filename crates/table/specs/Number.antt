@@ -1,5 +1,6 @@
 -- A field of the table as one number, which says its place, its plain and its narrowed width and its codes; how document 01's notation
 -- makes such numbers, and what a number says.
+-- Assumes nothing.
 use Prim.Native.Nat.{ℕ, _+_, _-_, _*_, _/_, _%_}
 use mathlib.Core.List.{List, [], _∷_}
 use lib.Dec.{eqb}

@@ -1,5 +1,6 @@
 -- The command table as document 01 writes it, and the frame that a plain builder gives. Each row has document 01's line over it.
 -- Document 01: "Kind, opcode/length, fields in the Rust's argument order. [..] The table of 39 rows is one constant."
+-- Assumes nothing.
 use Prim.Native.Nat.{ℕ, _-_}
 use mathlib.Core.Bool.{Bool, true, false}
 use mathlib.Core.List.{List, [], _∷_, _++_}

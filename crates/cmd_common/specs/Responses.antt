@@ -1,0 +1,55 @@
+-- The responses to the common commands, as document 01 lists them: "Responses, status first ("n:b" is twice byte n plus bit b)".
+-- Any other length is refusal 7, "response length not the stated one".
+-- Assumes nothing.
+use Prim.Native.Nat.{ℕ}
+use mathlib.Core.Bool.{cond}
+use mathlib.Core.List.{List}
+use lib.Dec.{eqb}
+use lib.ListN.{length}
+use Rattle.status.specs.Notation.{wide, half}
+use Rattle.status.specs.Words.{statusOf}
+use Rattle.refusal.specs.declared.Refusal.the-variants.{ResponseLength}
+use Rattle.cmd_common.specs.declared.rsp.RssiInstRsp.{RssiInstRsp}
+use Rattle.cmd_common.specs.declared.rsp.RssiInstRead.{RssiInstRead}
+use Rattle.cmd_common.specs.declared.rsp.RssiInstRead.the-variants as rssiInst
+use Rattle.cmd_common.specs.declared.rsp.TimestampValueRsp.{TimestampValueRsp}
+use Rattle.cmd_common.specs.declared.rsp.TimestampValueRead.{TimestampValueRead}
+use Rattle.cmd_common.specs.declared.rsp.TimestampValueRead.the-variants as timestampValue
+use Rattle.cmd_common.specs.declared.rsp.CcaResultRsp.{CcaResultRsp}
+use Rattle.cmd_common.specs.declared.rsp.CcaResultRead.{CcaResultRead}
+use Rattle.cmd_common.specs.declared.rsp.CcaResultRead.the-variants as ccaResult
+
+-- "RssiInstRsp 4: rssi 2:3.0."
+unfoldable pub rssiInstRsp : List ℕ → RssiInstRsp
+rssiInstRsp b =
+    record {
+      status = statusOf b;
+      rssi = record { 0 = half b 2 3 0 };
+    }
+
+abbrev pub rssiInstRead : List ℕ → RssiInstRead
+rssiInstRead b = cond (eqb (length b) 4) (rssiInst.Rsp (rssiInstRsp b)) (rssiInst.Refused ResponseLength)
+
+-- "TimestampValueRsp 6: 2-5."
+unfoldable pub timestampValueRsp : List ℕ → TimestampValueRsp
+timestampValueRsp b =
+    record {
+      status = statusOf b;
+      timestamp = wide b 2 5;
+    }
+
+abbrev pub timestampValueRead : List ℕ → TimestampValueRead
+timestampValueRead b = cond (eqb (length b) 6) (timestampValue.Rsp (timestampValueRsp b)) (timestampValue.Refused ResponseLength)
+
+-- "CcaResultRsp 6: rssi_min 2:5.2, rssi_max 3:5.1", and from the Rust: rssi_avg 4:5.0
+unfoldable pub ccaResultRsp : List ℕ → CcaResultRsp
+ccaResultRsp b =
+    record {
+      status = statusOf b;
+      «rssi_min» = record { 0 = half b 2 5 2 };
+      «rssi_max» = record { 0 = half b 3 5 1 };
+      «rssi_avg» = record { 0 = half b 4 5 0 };
+    }
+
+abbrev pub ccaResultRead : List ℕ → CcaResultRead
+ccaResultRead b = cond (eqb (length b) 6) (ccaResult.Rsp (ccaResultRsp b)) (ccaResult.Refused ResponseLength)

@@ -1,0 +1,3 @@
+pub mod Bits
+pub mod Outcome
+pub mod Examples

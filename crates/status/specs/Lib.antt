@@ -1,0 +1,3 @@
+pub mod Notation
+pub mod Codes
+pub mod Words
