@@ -1,3 +1,3 @@
 pub mod Outcome
+pub mod Widths
 pub mod ResponsesOutcome
-pub mod ResponsesExamples

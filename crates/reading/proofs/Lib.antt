@@ -2,4 +2,3 @@ pub mod Decimals
 pub mod Texts
 pub mod Signs
 pub mod Outcome
-pub mod Examples

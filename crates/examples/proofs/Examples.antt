@@ -1,0 +1,113 @@
+-- The examples that document 01 marks P, and the ends of some ranges: one list of cases with one claim, proved by computing.
+-- Those of the checked builder and the decoder join the list with them.
+-- Assumes nothing.
+use mathlib.Core.Path.{_≡_, refl}
+use mathlib.Core.List.{List, [], _∷_, map}
+use Prim.Native.Nat.{ℕ, _^_}
+use Rattle.frame.specs.Field.{part, sound}
+use Rattle.frame.specs.Layout.{put, tab, tabFrom}
+use Rattle.table.specs.Number.{plainOf}
+use Rattle.table.specs.Table.{plain}
+use Rattle.status.specs.Codes.{cmdCode, resetCode, modeCode}
+use Rattle.status.specs.Words.{statusOf, intrOf, cmdIn, resetIn, modeIn}
+use Rattle.status.specs.declared.CmdStatus.{CmdStatus}
+use Rattle.status.specs.declared.CmdStatus.the-variants as cmd
+use Rattle.status.specs.declared.ResetSrc.{ResetSrc}
+use Rattle.status.specs.declared.ResetSrc.the-variants as reset
+use Rattle.status.specs.declared.ChipModeStatus.{ChipModeStatus}
+use Rattle.status.specs.declared.ChipModeStatus.the-variants as mode
+use Rattle.reading.specs.Decimal.{decimal, digits}
+use Rattle.reading.specs.Level.{signedOf, tenths, hundredths, rssiText, snrText, counterDifference}
+use Rattle.cmd_lora.specs.Responses.{loraPacketStatusRsp}
+
+-- a case: what the specs give, and what document 01 says
+pub record Case : Type 0 where
+  pub given : List ℕ
+  pub stated : List ℕ
+
+-- ---- what a case can be of
+
+-- a kind's arguments, and its plain frame
+abbrev builds : ℕ → List ℕ → List ℕ → Case
+builds k args frame = record { given = plain k args; stated = frame }
+
+-- the bytes of a status, and what it says
+abbrev codes : CmdStatus → ResetSrc → ChipModeStatus → List ℕ
+codes c r m = cmdCode c ∷ resetCode r ∷ modeCode m ∷ []
+
+abbrev status : List ℕ → CmdStatus → ResetSrc → ChipModeStatus → Case
+status b c r m = record { given = codes (cmdIn (statusOf b .0)) (resetIn (statusOf b .0)) (modeIn (statusOf b .0)); stated = codes c r m }
+
+-- the bytes of interrupts, and their number
+abbrev interrupts : List ℕ → ℕ → Case
+interrupts b v = record { given = intrOf b .0 ∷ []; stated = v ∷ [] }
+
+-- the bytes of a LoRa packet status, and its two levels
+abbrev levels : List ℕ → ℕ → ℕ → Case
+levels b packet signal =
+    record { given = loraPacketStatusRsp b .«rssi_pkt» .0 ∷ loraPacketStatusRsp b .«rssi_signal_pkt» .0 ∷ []; stated = packet ∷ signal ∷ [] }
+
+-- a level's count, and its text
+abbrev level : ℕ → List ℕ → Case
+level count text = record { given = rssiText count; stated = text }
+
+-- an SNR byte, and its text
+abbrev snr : ℕ → List ℕ → Case
+snr b text = record { given = snrText (signedOf b); stated = text }
+
+-- two readings of a counter, and their difference
+abbrev counter : ℕ → ℕ → ℕ → Case
+counter earlier later d = record { given = counterDifference earlier later ∷ []; stated = d ∷ [] }
+
+-- ---- the cases
+
+unfoldable pub cases : List Case
+cases =
+    -- P Sf7, Bw125, Cr1Ham45Si, Off, Auto: 02 20 74 10
+    builds 1 (7 ∷ 4 ∷ 1 ∷ 0 ∷ 0 ∷ []) (0x02 ∷ 0x20 ∷ 0x74 ∷ 0x10 ∷ [])
+    -- P Sf12, Bw1000, Cr9Cc12, On, DccF: 02 20 C7 9D
+    ∷ builds 1 (12 ∷ 7 ∷ 9 ∷ 1 ∷ 3 ∷ []) (0x02 ∷ 0x20 ∷ 0xC7 ∷ 0x9D ∷ [])
+    -- P rx_timeout 16,777,215: 02 0C FF FF FF; 16,777,216: plain 02 0C 00 00 00
+    ∷ builds 29 (16777215 ∷ []) (0x02 ∷ 0x0C ∷ 0xFF ∷ 0xFF ∷ 0xFF ∷ [])
+    ∷ builds 29 (16777216 ∷ []) (0x02 ∷ 0x0C ∷ 0 ∷ 0 ∷ 0 ∷ [])
+    -- P HfPa, LfPaFsm, 0, 0: 02 02 80 00; LfPa with duty 8 gives the same plainly
+    ∷ builds 27 (1 ∷ 0 ∷ 0 ∷ 0 ∷ []) (0x02 ∷ 0x02 ∷ 0x80 ∷ 0 ∷ [])
+    ∷ builds 27 (0 ∷ 0 ∷ 8 ∷ 0 ∷ []) (0x02 ∷ 0x02 ∷ 0x80 ∷ 0 ∷ [])
+    -- P Sx126xLr11xx, init 4,096: plain 02 42 10 00
+    ∷ builds 18 (0 ∷ 4096 ∷ []) (0x02 ∷ 0x42 ∷ 0x10 ∷ 0 ∷ [])
+    -- P Addr2B, 1, 0x0102: 02 2B 21 02 01 then six zeros
+    ∷ builds 11 (2 ∷ 1 ∷ 0x0102 ∷ []) (0x02 ∷ 0x2B ∷ 0x21 ∷ 0x02 ∷ 0x01 ∷ 0 ∷ 0 ∷ 0 ∷ 0 ∷ 0 ∷ 0 ∷ [])
+    -- P status 04 04: Ok, Cleared, Rx; 08 00: Unknown
+    ∷ status (0x04 ∷ 0x04 ∷ []) cmd.Ok reset.Cleared mode.Rx
+    ∷ status (0x08 ∷ 0 ∷ []) cmd.Unknown reset.Cleared mode.Sleep
+    -- each part set, and the same with bits 15-12 and 3 set, which are ignored
+    ∷ status (0x06 ∷ 0x35 ∷ []) cmd.Data reset.Unknown mode.Tx
+    ∷ status (0xF6 ∷ 0x3D ∷ []) cmd.Data reset.Unknown mode.Tx
+    -- no byte, one byte, and one too many
+    ∷ status [] cmd.Fail reset.Cleared mode.Sleep
+    ∷ status (0x04 ∷ []) cmd.Ok reset.Cleared mode.Sleep
+    ∷ status (0x02 ∷ 0x60 ∷ 0xFF ∷ []) cmd.PErr reset.Rtc mode.Sleep
+    -- a short slice fills from the top: one byte 80 is bit 31
+    ∷ interrupts (0x80 ∷ []) (2 ^ 31)
+    ∷ interrupts (0 ∷ 0 ∷ 0 ∷ 1 ∷ 0xFF ∷ []) 1
+    -- P LoRa packet status, byte 5 = 5A, byte 7 = 02: rssi_pkt 181, printed -90.5
+    ∷ levels (0x04 ∷ 0x04 ∷ 0 ∷ 0 ∷ 0 ∷ 0x5A ∷ 0 ∷ 0x02 ∷ []) 181 0
+    ∷ level 181 (45 ∷ 57 ∷ 48 ∷ 46 ∷ 53 ∷ [])
+    -- levels 0, 1, 511 and 65,535: 0.0, -0.5, -255.5 and -32767.5
+    ∷ level 0 (48 ∷ 46 ∷ 48 ∷ [])
+    ∷ level 1 (45 ∷ 48 ∷ 46 ∷ 53 ∷ [])
+    ∷ level 511 (45 ∷ 50 ∷ 53 ∷ 53 ∷ 46 ∷ 53 ∷ [])
+    ∷ level 65535 (45 ∷ 51 ∷ 50 ∷ 55 ∷ 54 ∷ 55 ∷ 46 ∷ 53 ∷ [])
+    -- P SNR byte 80: -32.00; FF: -0.25
+    ∷ snr 0x80 (45 ∷ 51 ∷ 50 ∷ 46 ∷ 48 ∷ 48 ∷ [])
+    ∷ snr 0xFF (45 ∷ 48 ∷ 46 ∷ 50 ∷ 53 ∷ [])
+    -- 7F: 31.75; 00: 0.00
+    ∷ snr 0x7F (51 ∷ 49 ∷ 46 ∷ 55 ∷ 53 ∷ [])
+    ∷ snr 0 (48 ∷ 46 ∷ 48 ∷ 48 ∷ [])
+    -- P counter 65,535 then 3: 4
+    ∷ counter 65535 3 4
+    ∷ []
+
+pub examples : map (λ (c : Case). c .given) cases ≡ map (λ (c : Case). c .stated) cases
+unfolding cases put tab tabFrom part sound plainOf loraPacketStatusRsp snrText rssiText tenths hundredths decimal digits
+examples = refl
