@@ -1,0 +1,219 @@
+// The builders of cmd_common, kinds 24 to 39.
+use crate::answer::Answer;
+use crate::answer::framed;
+use crate::request::arg;
+use crate::request::low8;
+use crate::request::low16;
+use crate::request::low32;
+use crate::request::yes;
+use cmd_common::AutoTxrxMode;
+use cmd_common::CadExitMode;
+use cmd_common::PaLfMode;
+use cmd_common::PaSel;
+use cmd_common::RxBoost;
+use cmd_common::RxPath;
+use cmd_common::TimestampIndex;
+use cmd_common::TimestampSource;
+
+// The answer for a kind from 24 to 39; empty for any other.
+pub fn built(kind: u8, p: &[u8]) -> Answer {
+    match kind {
+        24 => kind_24(p),
+        25 => kind_25(p),
+        26 => kind_26(p),
+        27 => kind_27(p),
+        28 => kind_28(p),
+        29 => kind_29(p),
+        30 => kind_30(p),
+        31 => kind_31(p),
+        32 => kind_32(p),
+        33 => kind_33(p),
+        34 => kind_34(p),
+        35 => kind_35(p),
+        36 => kind_36(p),
+        37 => kind_37(p),
+        38 => kind_38(p),
+        39 => kind_39(p),
+        _ => Answer::new(),
+    }
+}
+
+fn kind_24(p: &[u8]) -> Answer {
+    let cmd = cmd_common::set_rf_frequency_cmd(low32(arg(p, 0)));
+    framed(&cmd)
+}
+
+fn kind_25(p: &[u8]) -> Answer {
+    let cmd = cmd_common::set_rx_path_cmd(rx_path(arg(p, 0)));
+    framed(&cmd)
+}
+
+fn kind_26(p: &[u8]) -> Answer {
+    let cmd = cmd_common::set_rx_path_adv_cmd(rx_path(arg(p, 0)), rx_boost(arg(p, 1)));
+    framed(&cmd)
+}
+
+fn kind_27(p: &[u8]) -> Answer {
+    let cmd = cmd_common::set_pa_config_cmd(
+        pa_sel(arg(p, 0)),
+        pa_lf_mode(arg(p, 1)),
+        low8(arg(p, 2)),
+        low8(arg(p, 3)),
+    );
+    framed(&cmd)
+}
+
+fn kind_28(p: &[u8]) -> Answer {
+    let cmd = cmd_common::set_pa_config_adv_cmd(
+        pa_sel(arg(p, 0)),
+        pa_lf_mode(arg(p, 1)),
+        low8(arg(p, 2)),
+        low8(arg(p, 3)),
+        low8(arg(p, 4)),
+    );
+    framed(&cmd)
+}
+
+fn kind_29(p: &[u8]) -> Answer {
+    let cmd = cmd_common::set_rx_adv_cmd(low32(arg(p, 0)));
+    framed(&cmd)
+}
+
+fn kind_30(p: &[u8]) -> Answer {
+    let cmd = cmd_common::set_tx_adv_cmd(low32(arg(p, 0)));
+    framed(&cmd)
+}
+
+fn kind_31(p: &[u8]) -> Answer {
+    let cmd = cmd_common::sel_pa_cmd(pa_sel(arg(p, 0)));
+    framed(&cmd)
+}
+
+fn kind_32(p: &[u8]) -> Answer {
+    let cmd = cmd_common::set_rx_duty_cycle_cmd(
+        low32(arg(p, 0)),
+        low32(arg(p, 1)),
+        yes(arg(p, 2)),
+        low8(arg(p, 3)),
+    );
+    framed(&cmd)
+}
+
+fn kind_33(p: &[u8]) -> Answer {
+    let cmd = cmd_common::set_auto_rx_tx_cmd(
+        yes(arg(p, 0)),
+        auto_txrx_mode(arg(p, 1)),
+        low32(arg(p, 2)),
+        low32(arg(p, 3)),
+    );
+    framed(&cmd)
+}
+
+fn kind_34(p: &[u8]) -> Answer {
+    let cmd = cmd_common::set_default_rx_tx_timeout_cmd(low32(arg(p, 0)), low32(arg(p, 1)));
+    framed(&cmd)
+}
+
+fn kind_35(p: &[u8]) -> Answer {
+    let cmd = cmd_common::set_timestamp_source_cmd(
+        timestamp_index(arg(p, 0)),
+        timestamp_source(arg(p, 1)),
+    );
+    framed(&cmd)
+}
+
+fn kind_36(p: &[u8]) -> Answer {
+    let cmd = cmd_common::set_cca_cmd(low32(arg(p, 0)));
+    framed(&cmd)
+}
+
+fn kind_37(p: &[u8]) -> Answer {
+    let cmd = cmd_common::set_cca_adv_cmd(low32(arg(p, 0)), low8(arg(p, 1)));
+    framed(&cmd)
+}
+
+fn kind_38(p: &[u8]) -> Answer {
+    let cmd = cmd_common::set_agc_gain_manual_cmd(low8(arg(p, 0)));
+    framed(&cmd)
+}
+
+fn kind_39(p: &[u8]) -> Answer {
+    let cmd = cmd_common::set_cad_params_cmd(
+        low32(arg(p, 0)),
+        low8(arg(p, 1)),
+        exit_mode(arg(p, 2)),
+        low32(arg(p, 3)),
+    );
+    framed(&cmd)
+}
+
+// The value of each code; the requests hold no other code, and the last arm takes the first name too.
+fn rx_path(code: u64) -> RxPath {
+    match code {
+        1 => RxPath::HfPath,
+        _ => RxPath::LfPath,
+    }
+}
+
+fn rx_boost(code: u64) -> RxBoost {
+    match code {
+        1 => RxBoost::B1,
+        2 => RxBoost::B2,
+        3 => RxBoost::B3,
+        4 => RxBoost::B4,
+        5 => RxBoost::B5,
+        6 => RxBoost::B6,
+        7 => RxBoost::Max,
+        _ => RxBoost::Off,
+    }
+}
+
+fn pa_sel(code: u64) -> PaSel {
+    match code {
+        1 => PaSel::HfPa,
+        _ => PaSel::LfPa,
+    }
+}
+
+fn pa_lf_mode(code: u64) -> PaLfMode {
+    match code {
+        1 => PaLfMode::LfPaFdm,
+        2 => PaLfMode::LfPaHsmRfo1,
+        3 => PaLfMode::LfPaHsmRfo2,
+        _ => PaLfMode::LfPaFsm,
+    }
+}
+
+fn auto_txrx_mode(code: u64) -> AutoTxrxMode {
+    match code {
+        1 => AutoTxrxMode::Always,
+        2 => AutoTxrxMode::RxOk,
+        _ => AutoTxrxMode::Disable,
+    }
+}
+
+fn timestamp_index(code: u64) -> TimestampIndex {
+    match code {
+        1 => TimestampIndex::Ts1,
+        2 => TimestampIndex::Ts2,
+        _ => TimestampIndex::Ts0,
+    }
+}
+
+fn timestamp_source(code: u64) -> TimestampSource {
+    match code {
+        1 => TimestampSource::TxDone,
+        2 => TimestampSource::RxDone,
+        3 => TimestampSource::Sync,
+        4 => TimestampSource::Header,
+        _ => TimestampSource::None,
+    }
+}
+
+fn exit_mode(code: u64) -> CadExitMode {
+    match code {
+        1 => CadExitMode::Tx,
+        2 => CadExitMode::Rx,
+        _ => CadExitMode::Fallback,
+    }
+}
