@@ -8,7 +8,7 @@ int printf(const char *, ...);
 
 enum { SETS = 1024, ROUNDS = 64, REPEATS = 21, MOST = 9, BYTES = 20 };
 
-static u64 HB[SETS][MOST], RS[SETS][MOST];
+static u64 given[SETS][MOST];
 static u8 bytes[SETS + BYTES];
 static volatile u64 sum;
 static u8 out[16];
@@ -27,14 +27,12 @@ static double now(void) {
     return t.sec * 1e9 + t.nsec;
 }
 
-// An argument: a number of so many bits, or one of an enum's codes.
-typedef struct { int width; const u8 *codes; int count; } argument;
+// An argument: one of `count` numbers from `least` on; any number of 64 bits where count is 0.
+typedef struct { u64 least, count; } argument;
 typedef struct { const char *name; void (*hb)(void), (*rs)(void); int arguments; argument argument[MOST]; int size; } builder;
 typedef u64 (*reader)(const u8 *, u64);
 typedef struct { const char *name; reader hb, rs; int size; } reading;
 
-static const u8 dio[] = {5, 6, 7, 8, 9, 10, 11};
-/* CODES */
 /* CALLS */
 static const builder builders[] = {
 /* TABLE */
@@ -52,12 +50,7 @@ static void fill(const builder *b) {
         for (int j = 0; j < b->arguments; j++) {
             const argument *a = &b->argument[j];
             u64 r = next();
-            if (a->codes == 0) {
-                HB[i][j] = RS[i][j] = a->width < 64 ? r & (((u64)1 << a->width) - 1) : r;
-            } else {
-                HB[i][j] = a->codes == dio ? dio[r % 7] : r % a->count;
-                RS[i][j] = a->codes[r % a->count];
-            }
+            given[i][j] = a->count ? a->least + r % a->count : r;
         }
 }
 

@@ -5,7 +5,7 @@ OUT/port/src/lib.rt   the port, exported to C: hb_KIND for each builder, hb_NAME
 OUT/rust.rs           the Rust, exported likewise: rs_KIND, rs_NAME
 OUT/driver.c          calls both on the same random arguments in one process and prints ratios
 
-An enum arrives as its place in the enum here and as its number in the Rust: what a caller's variable of that type holds.
+An enum arrives as its place in the enum, and a `match` makes its value, alike on both sides.
 """
 import os
 import re
@@ -22,14 +22,11 @@ def read(crate):
     enums = {}
     for name, body in re.findall(r"pub enum (\w+) \{\n(.*?)\n\}", text, re.S):
         enums[name] = re.findall(r"(\w+),", body)
-    codes = {}
-    for name, variant, code in re.findall(r"(\w+)::(\w+) => (\d+),", text):
-        codes.setdefault((name, variant), int(code))
     builders = []
     for kind, name, params, size in re.findall(r"// Kind (\d+)\..*?\npub fn (\w+)\((.*?)\) -> \[u8; (\d+)\]", text, re.S):
         params = [tuple(p.strip().split(": ")) for p in params.split(",") if p.strip()]
         builders.append((int(kind), crate, name, params, int(size)))
-    return enums, codes, builders
+    return enums, builders
 
 
 def snake(name):
@@ -40,7 +37,7 @@ def port(enums, builders):
     out = ["// Made by bench/generate.py: the port exported to C, for bench/run.\n"]
     for (crate, name), variants in enums.items():
         arms = "".join(f"        {i} => {crate}::{name}::{v},\n" for i, v in enumerate(variants[:-1]))
-        out.append(f"fn {snake(name)}(i: u64) -> {crate}::{name} {{\n    match i {{\n{arms}        _ => {crate}::{name}::{variants[-1]},\n    }}\n}}\n")
+        out.append(f"fn to_{snake(name)}(i: u64) -> {crate}::{name} {{\n    match i {{\n{arms}        _ => {crate}::{name}::{variants[-1]},\n    }}\n}}\n")
     for kind, crate, name, params, size in builders:
         head = "".join(f"{p}: u64, " for p, _ in params)
         args = []
@@ -52,32 +49,36 @@ def port(enums, builders):
             elif t in WIDTH:
                 args.append(f"({p} % {1 << WIDTH[t]}) as {t}")
             else:
-                args.append(f"{snake(t)}({p})")
+                args.append(f"to_{snake(t)}({p})")
         out.append(f'#[no_mangle]\npub extern "C" fn hb_{kind}({head}out: &mut [u8; {size}]) {{\n    let cmd = {crate}::{name}({", ".join(args)});\n    *out = cmd;\n}}\n')
     out.append(open("bench/readers.rt", encoding="utf8").read())
     return "\n".join(out)
 
 
-def rust(builders):
+def rust(enums, builders):
     out = [open("bench/shim.rs", encoding="utf8").read().replace("SOURCE", SOURCE)]
+    for (crate, name), variants in enums.items():
+        path = RUST_ENUM.get(name, f"{crate}::{name}")
+        arms = "".join(f"        {i} => {path}::{v},\n" for i, v in enumerate(variants[:-1]))
+        out.append(f"fn to_{snake(name)}(i: u64) -> {path} {{\n    match i {{\n{arms}        _ => {path}::{variants[-1]},\n    }}\n}}\n")
     for kind, crate, name, params, size in builders:
         head = "".join(f"{p}: u64, " for p, _ in params)
         args = []
         for p, t in params:
-            if name == "set_lora_tx_sync_cmd" and p == "dio_num":
-                t = "cmd_system::DioNum"
-            if t == "bool":
+            if p == "dio_num":
+                args.append(f"unsafe {{ core::mem::transmute::<u8, cmd_system::DioNum>({p} as u8) }}")
+            elif t == "bool":
                 args.append(f"{p} == 1")
             elif t in WIDTH:
                 args.append(f"{p} as {t}")
             else:
-                args.append(f"unsafe {{ core::mem::transmute::<u8, {RUST_ENUM.get(t, t if '::' in t else crate + '::' + t)}>({p} as u8) }}")
+                args.append(f"to_{snake(t)}({p})")
         out.append(f'#[no_mangle]\npub extern "C" fn rs_{kind}({head}out: &mut [u8; {size}]) {{\n    *out = {crate}::{name}({", ".join(args)});\n}}\n')
     return "\n".join(out)
 
 
-def driver(enums, codes, builders):
-    lists = {name: [codes[(name, v)] for v in variants] for (_, name), variants in enums.items()}
+def driver(enums, builders):
+    sizes = {name: len(variants) for (_, name), variants in enums.items()}
     calls, table = [], []
     for kind, crate, name, params, size in builders:
         n = len(params)
@@ -85,36 +86,34 @@ def driver(enums, codes, builders):
         rows = []
         for p, t in params:
             if p == "dio_num":
-                rows.append("{0, dio, 7}")
+                rows.append("{5, 7}")
             elif t in WIDTH:
-                rows.append(f"{{{WIDTH[t]}, 0, 0}}")
+                rows.append(f"{{0, {1 << WIDTH[t] if WIDTH[t] < 64 else 0}}}")
             else:
-                rows.append(f"{{0, codes_{snake(t)}, {len(lists[t])}}}")
+                rows.append(f"{{0, {sizes[t]}}}")
         for side in ("hb", "rs"):
-            args = "".join(f"{side.upper()}[i][{j}], " for j in range(n))
+            args = "".join(f"given[i][{j}], " for j in range(n))
             calls.append(f"void {side}_{kind}({types}u8 *);\nstatic void {side}_loop_{kind}(void) {{ for (int i = 0; i < SETS; i++) {side}_{kind}({args}out); }}\n")
-        args = "{" + ", ".join(rows or ["{0, 0, 0}"]) + "}"
+        args = "{" + ", ".join(rows or ["{0, 0}"]) + "}"
         table.append(f'    {{"{kind} {name}", hb_loop_{kind}, rs_loop_{kind}, {n}, {args}, {size}}},\n')
-    consts = "".join(f"static const u8 codes_{snake(n)}[] = {{{', '.join(map(str, c))}}};\n" for n, c in lists.items())
     text = open("bench/driver.c", encoding="utf8").read()
-    return text.replace("/* CODES */\n", consts).replace("/* CALLS */\n", "".join(calls)).replace("/* TABLE */\n", "".join(table))
+    return text.replace("/* CALLS */\n", "".join(calls)).replace("/* TABLE */\n", "".join(table))
 
 
 def main():
     out = sys.argv[1]
-    enums, codes, builders = {}, {}, []
+    enums, builders = {}, []
     for crate in CRATES:
-        e, c, b = read(crate)
+        e, b = read(crate)
         for name, variants in e.items():
-            if (name, variants[0]) in c and name != "Ordering":
+            if name != "Ordering":
                 enums[(crate, name)] = variants
-        codes.update(c)
         builders += b
     assert [b[0] for b in builders] == list(range(1, 40)), "a builder is missing"
     os.makedirs(f"{out}/port/src", exist_ok=True)
     open(f"{out}/port/src/lib.rt", "w", encoding="utf8").write(port(enums, builders))
-    open(f"{out}/rust.rs", "w", encoding="utf8").write(rust(builders))
-    open(f"{out}/driver.c", "w", encoding="utf8").write(driver(enums, codes, builders))
+    open(f"{out}/rust.rs", "w", encoding="utf8").write(rust(enums, builders))
+    open(f"{out}/driver.c", "w", encoding="utf8").write(driver(enums, builders))
 
 
 main()

@@ -5,6 +5,7 @@
 #[path = "SOURCE/status.rs"]
 pub mod status;
 
+#[path = "."]
 pub mod cmd {
     #[path = "SOURCE/cmd/cmd_common.rs"]
     pub mod cmd_common;
@@ -26,48 +27,71 @@ use status::{Intr, Status};
 #[panic_handler]
 fn panic(_: &core::panic::PanicInfo) -> ! { loop {} }
 
-// ---- readers: each reads all that there is, and sums it up so that nothing is left out
+// ---- readers: each reads all that there is, and mixes it so that nothing is left out
 
-fn summed(s: Status) -> u64 {
-    s.cmd() as u64 + 16 * s.is_ok() as u64 + 32 * s.irq() as u64 + 64 * s.reset_src() as u64 + 4096 * s.chip_mode() as u64
+fn mixed(s: Status) -> u64 {
+    s.cmd() as u64 ^ ((s.is_ok() as u64) << 4) ^ ((s.irq() as u64) << 5) ^ ((s.reset_src() as u64) << 6) ^ ((s.chip_mode() as u64) << 12)
 }
 
 #[no_mangle]
 pub unsafe extern "C" fn rs_status(p: *const u8, n: usize) -> u64 {
-    summed(Status::from_slice(core::slice::from_raw_parts(p, n)))
+    mixed(Status::from_slice(core::slice::from_raw_parts(p, n)))
 }
 
 #[no_mangle]
 pub unsafe extern "C" fn rs_intr(p: *const u8, n: usize) -> u64 {
     let i = Intr::from_slice(core::slice::from_raw_parts(p, n));
-    i.value() as u64 + i.rx_done() as u64 + 2 * i.tx_done() as u64 + 4 * i.timeout() as u64 + 8 * i.crc_error() as u64
-        + 16 * i.none() as u64 + 32 * i.preamble_detected() as u64 + 64 * i.header_err() as u64 + 128 * i.rng_timeout() as u64
+    i.value() as u64 ^ ((i.rx_done() as u64) << 32) ^ ((i.tx_done() as u64) << 33)
+        ^ ((i.timeout() as u64) << 34) ^ ((i.crc_error() as u64) << 35)
+        ^ ((i.none() as u64) << 36) ^ ((i.preamble_detected() as u64) << 37)
+        ^ ((i.header_err() as u64) << 38) ^ ((i.rng_timeout() as u64) << 39)
 }
 
 // A response is filled as the Rust fills it; another length gives 7, as here.
 macro_rules! response {
-    ($name:ident, $rsp:path, $len:expr, $sum:expr) => {
+    ($name:ident, $rsp:path, $len:expr, $mix:expr) => {
         #[no_mangle]
         pub unsafe extern "C" fn $name(p: *const u8, n: usize) -> u64 {
             if n != $len { return 7; }
             let mut r = <$rsp>::new();
             r.as_mut().copy_from_slice(core::slice::from_raw_parts(p, n));
-            let sum: fn(&mut $rsp) -> u64 = $sum;
-            sum(&mut r)
+            let mix: fn(&mut $rsp) -> u64 = $mix;
+            mix(&mut r)
         }
     };
 }
 
-response!(rs_lora_rx_stats, cmd_lora::LoraRxStatsRsp, 12, |r| summed(r.status()) + r.pkt_rx() as u64 + 3 * r.crc_error() as u64
-    + 5 * r.header_error() as u64 + 7 * r.detection() as u64 + 11 * r.false_sync() as u64);
-response!(rs_lora_packet_status, cmd_lora::LoraPacketStatusRsp, 8, |r| summed(r.status()) + r.crc() as u64 + 3 * r.coding_rate() as u64
-    + 5 * r.pkt_length() as u64 + 7 * (r.snr_pkt() < 0) as u64 + 11 * r.rssi_pkt() as u64 + 13 * r.rssi_signal_pkt() as u64 + 17 * r.detector() as u64);
-response!(rs_fsk_rx_stats, cmd_fsk::FskRxStatsRsp, 16, |r| summed(r.status()) + r.pkt_rx() as u64 + 3 * r.crc_error() as u64
-    + 5 * r.len_error() as u64 + 7 * r.pbl_det() as u64 + 11 * r.sync_ok() as u64 + 13 * r.sync_fail() as u64 + 17 * r.timeout() as u64);
-response!(rs_fsk_packet_status, cmd_fsk::FskPacketStatusRsp, 8, |r| summed(r.status()) + r.pkt_len() as u64 + 3 * r.rssi_avg() as u64
-    + 5 * r.rssi_sync() as u64 + 7 * r.addr_match_bcast() as u64 + 11 * r.addr_match_node() as u64 + 13 * r.lqi() as u64);
-response!(rs_rssi_inst, cmd_common::RssiInstRsp, 4, |r| summed(r.status()) + r.rssi() as u64);
-response!(rs_timestamp_value, cmd_common::TimestampValueRsp, 6, |r| summed(r.status()) + r.timestamp() as u64);
-response!(rs_cca_result, cmd_common::CcaResultRsp, 6, |r| summed(r.status()) + r.rssi_min() as u64 + 3 * r.rssi_max() as u64 + 5 * r.rssi_avg() as u64);
+response!(rs_lora_rx_stats, cmd_lora::LoraRxStatsRsp, 12, |r| {
+    mixed(r.status()) ^ ((r.pkt_rx() as u64) << 1) ^ ((r.crc_error() as u64) << 2)
+        ^ ((r.header_error() as u64) << 3) ^ ((r.detection() as u64) << 4)
+        ^ ((r.false_sync() as u64) << 5)
+});
+response!(rs_lora_packet_status, cmd_lora::LoraPacketStatusRsp, 8, |r| {
+    mixed(r.status()) ^ ((r.crc() as u64) << 1) ^ ((r.coding_rate() as u64) << 2)
+        ^ ((r.pkt_length() as u64) << 3) ^ (((r.snr_pkt() < 0) as u64) << 4)
+        ^ ((r.rssi_pkt() as u64) << 5) ^ ((r.rssi_signal_pkt() as u64) << 6)
+        ^ ((r.detector() as u64) << 7)
+});
+response!(rs_fsk_rx_stats, cmd_fsk::FskRxStatsRsp, 16, |r| {
+    mixed(r.status()) ^ ((r.pkt_rx() as u64) << 1) ^ ((r.crc_error() as u64) << 2)
+        ^ ((r.len_error() as u64) << 3) ^ ((r.pbl_det() as u64) << 4)
+        ^ ((r.sync_ok() as u64) << 5) ^ ((r.sync_fail() as u64) << 6)
+        ^ ((r.timeout() as u64) << 7)
+});
+response!(rs_fsk_packet_status, cmd_fsk::FskPacketStatusRsp, 8, |r| {
+    mixed(r.status()) ^ ((r.pkt_len() as u64) << 1) ^ ((r.rssi_avg() as u64) << 2)
+        ^ ((r.rssi_sync() as u64) << 3) ^ ((r.addr_match_bcast() as u64) << 4)
+        ^ ((r.addr_match_node() as u64) << 5) ^ ((r.lqi() as u64) << 6)
+});
+response!(rs_rssi_inst, cmd_common::RssiInstRsp, 4, |r| {
+    mixed(r.status()) ^ ((r.rssi() as u64) << 1)
+});
+response!(rs_timestamp_value, cmd_common::TimestampValueRsp, 6, |r| {
+    mixed(r.status()) ^ ((r.timestamp() as u64) << 1)
+});
+response!(rs_cca_result, cmd_common::CcaResultRsp, 6, |r| {
+    mixed(r.status()) ^ ((r.rssi_min() as u64) << 1) ^ ((r.rssi_max() as u64) << 2)
+        ^ ((r.rssi_avg() as u64) << 3)
+});
 
 // ---- builders
