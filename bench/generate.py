@@ -51,7 +51,7 @@ def port(enums, builders):
             else:
                 args.append(f"to_{snake(t)}({p})")
         out.append(f'#[no_mangle]\npub extern "C" fn hb_{kind}({head}out: &mut [u8; {size}]) {{\n    let cmd = {crate}::{name}({", ".join(args)});\n    *out = cmd;\n}}\n')
-    out.append(open("bench/readers.rt", encoding="utf8").read())
+    out.append(open("bench/readers.rt.txt", encoding="utf8").read())
     return "\n".join(out)
 
 
