@@ -4,7 +4,9 @@ use crate::builders::frame;
 use crate::cmd::cmd_common::{CcaResultRsp, RssiInstRsp, TimestampValueRsp};
 use crate::cmd::cmd_fsk::{FskPacketStatusRsp, FskRxStatsRsp};
 use crate::cmd::cmd_lora::{LoraPacketStatusRsp, LoraRxStatsRsp};
+use crate::coded::{CHECKED, DECODE};
 use crate::enums::{lora_bw, lora_cr, sf};
+use crate::model::{checked, decode, Built, Decoded};
 use crate::status::{Intr, Status};
 use crate::{Lr2021Error, ANSWER, PAYLOAD};
 use std::cmp::Ordering;
@@ -51,7 +53,7 @@ macro_rules! number_parts {
     };
 }
 
-number_parts!(u8 i8 u16 u32);
+number_parts!(u8 i8 u16 u32 u64);
 
 macro_rules! parts {
     ($to:ident: $($part:expr),+) => {{ $($part.put($to);)+ }};
@@ -117,11 +119,39 @@ pub fn answer(op: u8, aux: u8, payload: &[u8; PAYLOAD]) -> [u8; ANSWER] {
         77 => text(to, ratio(payload[0] as i8)),
         78 => parts!(to: half(payload, 2).wrapping_sub(half(payload, 0))),
         79 => parts!(to: tenths(payload[0])),
+        DECODE => decoded(to, slice),
+        CHECKED => built(to, payload, aux as usize),
         _ => panic!("{} is no operation", op),
     }
     let mut whole = [0; ANSWER];
     whole[..bytes.len()].copy_from_slice(&bytes);
     whole
+}
+
+// Refusal, place, kind, count, four zeros, the arguments.
+fn decoded(to: &mut Vec<u8>, frame: &[u8]) {
+    match decode(frame) {
+        Decoded::Kind(kind, arguments) => {
+            parts!(to: 0u8, 0u8, kind as u8, arguments.len() as u8, 0u32);
+            for x in arguments {
+                x.put(to);
+            }
+        }
+        Decoded::Refused(number, place) => parts!(to: number, place),
+    }
+}
+
+// Refusal, place, length, the frame. The payload has the kind and then the arguments.
+fn built(to: &mut Vec<u8>, payload: &[u8; PAYLOAD], count: usize) {
+    let long = |i: usize| (0..8).rev().fold(0, |x, j| x << 8 | payload[8 * i + j] as u64);
+    let arguments: Vec<u64> = (1..=count).map(long).collect();
+    match checked(long(0), &arguments) {
+        Built::Frame(frame) => {
+            parts!(to: 0u8, 0u8, frame.len() as u8);
+            to.extend(frame);
+        }
+        Built::Refused(number, place) => parts!(to: number, place),
+    }
 }
 
 fn half(payload: &[u8; PAYLOAD], at: usize) -> u16 {

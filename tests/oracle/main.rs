@@ -19,7 +19,9 @@ mod cmd {
 
 mod answers;
 mod builders;
+mod coded;
 mod enums;
+mod model;
 mod sets;
 mod shown;
 
@@ -35,10 +37,10 @@ pub enum Lr2021Error {
     Unknown,
 }
 
-pub const REQUEST: usize = 76;
+pub const REQUEST: usize = 112;
 pub const HEAD: usize = 4;
-pub const PAYLOAD: usize = 72;
-pub const ANSWER: usize = 40;
+pub const PAYLOAD: usize = 108;
+pub const ANSWER: usize = 80;
 
 fn main() {
     let words: Vec<String> = std::env::args().skip(1).collect();

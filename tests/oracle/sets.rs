@@ -1,6 +1,7 @@
 // The requests: the wide set and the sample. Both are the same on every run: the random numbers have a fixed seed.
 use crate::answers::answer;
 use crate::builders::{arguments, Argument};
+use crate::coded::codec;
 use crate::enums::{LORA_BW, LORA_CR, SF};
 use crate::{ANSWER, HEAD, PAYLOAD, REQUEST};
 use std::fs::File;
@@ -17,21 +18,21 @@ const RESPONSES: [(u8, usize); 7] = [(66, 12), (67, 8), (68, 16), (69, 8), (70, 
 const LONGEST: usize = 20;
 
 // splitmix64.
-struct Random(u64);
+pub struct Random(u64);
 
 impl Random {
-    fn next(&mut self) -> u64 {
+    pub fn next(&mut self) -> u64 {
         self.0 = self.0.wrapping_add(0x9E37_79B9_7F4A_7C15);
         let z = (self.0 ^ self.0 >> 30).wrapping_mul(0xBF58_476D_1CE4_E5B9);
         let z = (z ^ z >> 27).wrapping_mul(0x94D0_49BB_1331_11EB);
         z ^ z >> 31
     }
 
-    fn below(&mut self, n: u64) -> u64 {
+    pub fn below(&mut self, n: u64) -> u64 {
         self.next() % n
     }
 
-    fn one_of(&mut self, list: &[u64]) -> u64 {
+    pub fn one_of(&mut self, list: &[u64]) -> u64 {
         list[self.below(list.len() as u64) as usize]
     }
 
@@ -44,10 +45,10 @@ impl Random {
     }
 }
 
-struct Set {
+pub struct Set {
     requests: BufWriter<File>,
     answers: BufWriter<File>,
-    random: Random,
+    pub random: Random,
     groups: Vec<(&'static str, usize)>,
 }
 
@@ -61,7 +62,7 @@ impl Set {
         })
     }
 
-    fn group(&mut self, name: &'static str) {
+    pub fn group(&mut self, name: &'static str) {
         self.groups.push((name, 0));
     }
 
@@ -78,7 +79,7 @@ impl Set {
     }
 
     // A request with these bytes first, and what the random numbers give behind them.
-    fn ask_of(&mut self, op: u8, aux: usize, first: &[u8]) -> Result<()> {
+    pub fn ask_of(&mut self, op: u8, aux: usize, first: &[u8]) -> Result<()> {
         let mut payload = self.random.payload();
         payload[..first.len()].copy_from_slice(first);
         self.ask(op, aux, &payload)
@@ -410,6 +411,7 @@ fn whole(requests: &str, answers: &str, is_wide: bool) -> Result<()> {
     texts(&mut set, is_wide)?;
     counters(&mut set, is_wide)?;
     widths(&mut set)?;
+    codec(&mut set, is_wide)?;
     set.end()
 }
 

@@ -4,7 +4,7 @@ use crate::builders::arguments;
 use crate::{ANSWER, HEAD, PAYLOAD, REQUEST};
 use std::io::Result;
 
-const OPERATIONS: [&str; 16] = [
+const OPERATIONS: [&str; 18] = [
     "Status",
     "Intr",
     "LoraRxStatsRsp",
@@ -21,6 +21,8 @@ const OPERATIONS: [&str; 16] = [
     "text of an SNR",
     "difference of a counter",
     "name of an RxBw",
+    "decoder",
+    "checked builder",
 ];
 
 pub fn differ(requests: &str, answers: &str, others: &str) -> Result<()> {
@@ -50,7 +52,7 @@ fn shown(request: &[u8]) -> String {
             let count = arguments(kind).len();
             format!("builder of kind {}, arguments {:?}", kind, &arguments_of(&payload)[..count])
         }
-        op @ 64..=79 => {
+        op @ 64..=81 => {
             let name = OPERATIONS[op as usize - 64];
             format!("operation {}, {}, slice of {}, payload {}", op, name, request[1], hex(&payload))
         }

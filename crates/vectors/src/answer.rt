@@ -1,15 +1,15 @@
-// An answer: forty bytes, of which the first `len` are filled. What does not fit is left out.
+// An answer: eighty bytes, of which the first `len` are filled. What does not fit is left out.
 use crate::request::low8;
 
 pub struct Answer {
-    pub bytes: [u8; 40],
+    pub bytes: [u8; 80],
     pub len: usize,
 }
 
 impl Answer {
     pub fn new() -> Answer {
         Answer {
-            bytes: [0u8; 40],
+            bytes: [0u8; 80],
             len: 0,
         }
     }
@@ -17,7 +17,7 @@ impl Answer {
     pub fn byte(self, b: u8) -> Answer {
         let at = self.len;
         let mut bytes = self.bytes;
-        if at < 40 {
+        if at < 80 {
             bytes[at] = b;
             Answer { bytes, len: at + 1 }
         } else {
@@ -36,6 +36,11 @@ impl Answer {
 
     pub fn word(self, x: u32) -> Answer {
         self.half((x % 65536) as u16).half((x / 65536) as u16)
+    }
+
+    pub fn long(self, x: u64) -> Answer {
+        self.word((x % 4294967296) as u32)
+            .word((x / 4294967296) as u32)
     }
 }
 

@@ -1,4 +1,4 @@
-// Answers the requests on standard input, on standard output: requests of 76 bytes, answers of 40. tests/README.md
+// Answers the requests on standard input, on standard output: requests of 112 bytes, answers of 80. tests/README.md
 // has their form, and the Rust answers the same requests there. A request that is cut short at the end gets none.
 ghost use mathlib.Core.Path.{_≡_};
 ghost use Prim.Native.Nat.{_+_, _≤_};
@@ -8,15 +8,16 @@ use libc::STDIN_FILENO;
 use libc::STDOUT_FILENO;
 
 mod answer;
+mod coded;
 mod common;
 mod fsk;
 mod lora;
 mod readers;
 mod request;
 
-const REQUEST: usize = 76;
+const REQUEST: usize = 112;
 
-const ANSWER: usize = 40;
+const ANSWER: usize = 80;
 
 // A read takes in so many whole requests.
 const REQUESTS: usize = 860;
@@ -37,6 +38,14 @@ fn answer_to(op: u8, aux: usize, p: &[u8]) -> Answer {
             return readers::read_slice(op, &p[0..aux], p);
         }
     }
+    if op == 80 {
+        if aux <= p.len() {
+            return coded::decoded(&p[0..aux]);
+        }
+    }
+    if op == 81 {
+        return coded::built(aux, p);
+    }
     readers::read_numbers(op, p)
 }
 
@@ -45,16 +54,16 @@ fn small(x: u8) -> usize {
 }
 
 // The answer for one request.
-fn answer_one(r: &[u8]) -> [u8; 40] {
+fn answer_one(r: &[u8]) -> [u8; 80] {
     if r.len() < REQUEST {
-        return [0u8; 40];
+        return [0u8; 80];
     }
-    let a = answer_to(r[0], small(r[1]), &r[4..76]);
+    let a = answer_to(r[0], small(r[1]), &r[4..112]);
     a.bytes
 }
 
-fn put(out: &mut [u8], at: usize, a: [u8; 40])
-    requires { ⌜ at + 40 ≤ length (now out) ⌝ }
+fn put(out: &mut [u8], at: usize, a: [u8; 80])
+    requires { ⌜ at + 80 ≤ length (now out) ⌝ }
     ensures { λ _. ⌜ length (now (out .exit)) ≡ length (now (out .entry)) ⌝ }
 {
     let mut i: usize = 0;

@@ -15,14 +15,14 @@ fn half_of(a: u8, b: u8) -> u16 {
     (a as u16) + 256 * (b as u16)
 }
 
-// The numbers at a place of the payload, which has 72 bytes, low byte first.
+// The numbers at a place of the payload, which has 108 bytes, low byte first.
 pub fn half(p: &[u8], i: usize) -> u16 {
-    let at = i % 72;
+    let at = i % 104;
     half_of(byte(p, at), byte(p, at + 1))
 }
 
 pub fn word(p: &[u8], i: usize) -> u32 {
-    let at = i % 72;
+    let at = i % 104;
     word_of(
         byte(p, at),
         byte(p, at + 1),
@@ -31,9 +31,9 @@ pub fn word(p: &[u8], i: usize) -> u32 {
     )
 }
 
-// A builder's argument, one of nine.
+// A number of 64 bits, one of thirteen.
 pub fn arg(p: &[u8], i: usize) -> u64 {
-    let at = 8 * (i % 9);
+    let at = 8 * (i % 13);
     long_of(word(p, at), word(p, at + 4))
 }
 

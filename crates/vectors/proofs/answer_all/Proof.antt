@@ -8,7 +8,7 @@ use Rattle.vectors.proofs.answer_all.Statement.{statement}
 use Rattle.vectors.proofs.answer_all.Tie as tie
 
 abbrev Inv-loop : tie.InvT-loop
-Inv-loop s out₀ n k₀ out k = (k ≤ n) × (76 * n ≤ length s) × (40 * n ≤ length out₀) × (length out ≡ length out₀)
+Inv-loop s out₀ n k₀ out k = (k ≤ n) × (112 * n ≤ length s) × (80 * n ≤ length out₀) × (length out ≡ length out₀)
 
 abbrev μ-loop : tie.MeasureT-loop
 μ-loop s out₀ n k₀ out k = n - k

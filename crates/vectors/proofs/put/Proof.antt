@@ -1,4 +1,4 @@
--- `put` meets its contract. The loop's invariant: `i` is at most 40, and the output keeps its length.
+-- `put` meets its contract. The loop's invariant: `i` is at most 80, and the output keeps its length.
 -- Assumes nothing.
 use borrow.Author.Needs.{needs}
 use mathlib.Core.Path.{_≡_}
@@ -8,10 +8,10 @@ use Rattle.vectors.proofs.put.Statement.{statement}
 use Rattle.vectors.proofs.put.Tie as tie
 
 abbrev Inv-loop : tie.InvT-loop
-Inv-loop out₀ at a i₀ out i = (i ≤ 40) × (length out ≡ length out₀)
+Inv-loop out₀ at a i₀ out i = (i ≤ 80) × (length out ≡ length out₀)
 
 abbrev μ-loop : tie.MeasureT-loop
-μ-loop out₀ at a i₀ out i = 40 - i
+μ-loop out₀ at a i₀ out i = 80 - i
 
 loop-holds : tie.Need-loop-holds Inv-loop μ-loop
 loop-holds c = search needs

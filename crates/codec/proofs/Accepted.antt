@@ -1,0 +1,250 @@
+-- What it takes that the checked builder makes a frame (`Made`) and that a frame decodes (`Read`), and the way from each to the other:
+-- the lemmas of proofs/Laws.antt. Assumes nothing.
+use mathlib.Core.Path.{_≡_, refl, sym, ap, ap₂, _∙_, subst}
+use mathlib.Core.Bool.{Bool, true, false, cond, _&&_}
+use mathlib.Core.List.{List, [], _∷_}
+use Prim.Native.Nat.{ℕ, zero, suc, _+_, _-_, _^_, _≤_, _<_, min, zero-le, suc-le-suc}
+use native.Mathlib.Nat.{le-of-suc-le-suc, not-suc-le-zero, zero-add, add-zero, add-suc, suc-add}
+use native.Mathlib.Omega.{arith}
+use borrow.Author.Tests.{eq-eqb, lt-ltb, le-ltb, ltb-true, ltb-false}
+use lib.Bits.{bitAnd}
+use lib.Dec.{T, leb, ltb, eqb, leb→le, ltb→lt, lt→ltb, eqb→eq}
+use lib.ListN.{length, getD}
+use Rattle.frame.specs.Layout.{bytes, tab, tabFrom, byteOf, maskOf, reads, fitting, layout}
+use Rattle.frame.proofs.Fields.{and-in, both-left, both-right, length-tab, getD-tab, checked-reads, reads-fit, frame-back, clean}
+use Rattle.table.specs.Number.{narrowOf, narrowsOf, codesOf}
+use Rattle.table.specs.Codes.{takes}
+use Rattle.table.specs.Table.{rows, opOf, lenOf, numbersOf, opNumber, rowOf}
+use Rattle.table.specs.Laid.{find}
+use Rattle.table.proofs.Rows.{Laid, count, row-laid, row-found}
+use Rattle.refusal.specs.declared.Refusal.the-variants.{ShortFrame, UnknownOpcode, WrongLength, StrayBit, UnknownCode, NotAKind}
+use Rattle.codec.specs.Narrowed.{fieldsOf, frameOf, opcode, argumentsIn}
+use Rattle.codec.specs.Decoding as decoder
+use Rattle.codec.specs.Decoding.{reading, stray, strayAt, lacking, lackingAt, judged, known, decode}
+use Rattle.codec.specs.Building as builder
+use Rattle.codec.specs.Building.{makes, allows, outside, unless, checked}
+use Rattle.codec.proofs.Fitting.{starts, narrows, allFit, row-opcode, row-fits}
+use Rattle.codec.proofs.Returns.{found-row, length-narrows}
+
+pub of-true : (b : Bool) → b ≡ true → T b
+of-true b e = subst T (sym e) tt
+
+is-true : (b : Bool) → T b → b ≡ true
+is-true true t = refl
+is-true false t = absurd t
+
+-- ---- stray bits
+
+-- a frame without one is clean
+stray-none : (i : ℕ) (m : ℕ → ℕ) (f : List ℕ) → length f ≤ stray (tabFrom i (length f) m) f → (j : ℕ) → j < length f → bitAnd (bytes f j) (m (i + j)) ≡ bytes f j
+unfolding stray tabFrom
+stray-none i m [] h j l = absurd (not-suc-le-zero l)
+stray-none i m (b ∷ bs) h j l = go (eqb (bitAnd b (m i)) b) refl h (stray-none (suc i) m bs) j l
+  where
+    go : (t : Bool) → eqb (bitAnd b (m i)) b ≡ t → suc (length bs) ≤ cond t (suc (stray (tabFrom (suc i) (length bs) m) bs)) 0
+        → (length bs ≤ stray (tabFrom (suc i) (length bs) m) bs → (k : ℕ) → k < length bs → bitAnd (bytes bs k) (m (suc i + k)) ≡ bytes bs k)
+        → (k : ℕ) → k < suc (length bs) → bitAnd (bytes (b ∷ bs) k) (m (i + k)) ≡ bytes (b ∷ bs) k
+    go true q z ih zero l′ = ap (λ (x : ℕ). bitAnd b (m x)) (add-zero i) ∙ eqb→eq (bitAnd b (m i)) b (of-true _ q)
+    go true q z ih (suc k) l′ = ap (λ (x : ℕ). bitAnd (bytes bs k) (m x)) (add-suc i k ∙ sym (suc-add i k)) ∙ ih (le-of-suc-le-suc z) k (le-of-suc-le-suc l′)
+    go false q z ih k l′ = absurd (not-suc-le-zero z)
+
+-- and the other way round
+clean-none : (i : ℕ) (m : ℕ → ℕ) (f : List ℕ) → ((j : ℕ) → j < length f → bitAnd (bytes f j) (m (i + j)) ≡ bytes f j) → stray (tabFrom i (length f) m) f ≡ length f
+unfolding stray tabFrom
+clean-none i m [] h = refl
+clean-none i m (b ∷ bs) h =
+    ap (λ (t : Bool). cond t (suc (stray (tabFrom (suc i) (length bs) m) bs)) 0)
+    (eq-eqb (bitAnd b (m i)) b (ap (λ (x : ℕ). bitAnd b (m x)) (sym (add-zero i)) ∙ h zero (suc-le-suc zero-le)))
+    ∙ ap suc (clean-none (suc i) m bs (λ j l. ap (λ (x : ℕ). bitAnd (bytes bs j) (m x)) (suc-add i j ∙ sym (add-suc i j)) ∙ h (suc j) (suc-le-suc l)))
+
+module _ (m : ℕ → ℕ) (f : List ℕ) where
+  pub none-stray : length f ≤ stray (tab (length f) m) f → (j : ℕ) → j < length f → bitAnd (bytes f j) (m j) ≡ bytes f j
+  unfolding tab
+  none-stray h j l = ap (λ (x : ℕ). bitAnd (bytes f j) (m x)) (sym (zero-add j)) ∙ stray-none 0 m f h j l
+
+  pub stray-clean : ((j : ℕ) → j < length f → bitAnd (bytes f j) (m j) ≡ bytes f j) → stray (tab (length f) m) f ≡ length f
+  unfolding tab
+  stray-clean h = clean-none 0 m f (λ j l. ap (λ (x : ℕ). bitAnd (bytes f j) (m x)) (zero-add j) ∙ h j l)
+
+-- ---- arguments inside their ranges
+
+pub record Inside (cs vs : List ℕ) : Type 0 where
+  pub fit : T (fitting (narrowsOf cs) vs)
+  pub long : length vs ≡ length cs
+  pub taken : (n : ℕ) → lacking n cs vs ≡ n
+
+pub inside : (n : ℕ) (cs vs : List ℕ) → outside (suc n) cs vs ≡ 0 → Inside cs vs
+unfolding outside fitting narrowsOf lacking
+inside n [] [] e = record { fit = tt; long = refl; taken = λ m. refl }
+inside n [] (v ∷ vs) e = absurd (omega arith)
+inside n (c ∷ cs) [] e = absurd (omega arith)
+inside n (c ∷ cs) (v ∷ vs) e = go (ltb v (2 ^ narrowOf c .w)) (takes (codesOf c) v) refl refl e (inside (suc n) cs vs)
+  where
+    go : (a b : Bool) → ltb v (2 ^ narrowOf c .w) ≡ a → takes (codesOf c) v ≡ b → cond (a && b) (outside (suc (suc n)) cs vs) (suc n) ≡ 0
+        → (outside (suc (suc n)) cs vs ≡ 0 → Inside cs vs) → Inside (c ∷ cs) (v ∷ vs)
+    go true true p q z ih =
+        let w : Inside cs vs = ih z in record {
+          fit = and-in (ltb v (2 ^ narrowOf c .w)) (fitting (narrowsOf cs) vs) (of-true _ p) (w .fit);
+          long = ap suc (w .long);
+          taken = λ m. ap (λ (b : Bool). cond b (lacking m cs vs) (min (narrowOf c .first) (lacking m cs vs))) q ∙ w .taken m;
+        }
+    go true false p q z ih = absurd (omega arith)
+    go false b p q z ih = absurd (omega arith)
+
+-- what a frame holds fits, so that only a code can be outside
+none-outside : (m n : ℕ) (cs vs : List ℕ) → T (fitting (narrowsOf cs) vs) → T (allFit m cs) → m ≤ lacking m cs vs → outside n cs vs ≡ 0
+unfolding outside fitting narrowsOf lacking allFit starts
+none-outside m n [] [] t s h = refl
+none-outside m n [] (v ∷ vs) t s h = absurd t
+none-outside m n (c ∷ cs) [] t s h = absurd t
+none-outside m n (c ∷ cs) (v ∷ vs) t s h =
+    go (takes (codesOf c) v) refl h
+    (none-outside m (suc n) cs vs (both-right (ltb v (2 ^ narrowOf c .w)) (fitting (narrowsOf cs) vs) t) (both-right (ltb (narrowOf c .first) m && narrows c) (allFit m cs) s))
+  where
+    low : narrowOf c .first < m
+    low = ltb→lt _ _ (both-left (ltb (narrowOf c .first) m) (narrows c) (both-left (ltb (narrowOf c .first) m && narrows c) (allFit m cs) s))
+
+    small : ltb v (2 ^ narrowOf c .w) ≡ true
+    small = is-true _ (both-left (ltb v (2 ^ narrowOf c .w)) (fitting (narrowsOf cs) vs) t)
+
+    go : (b : Bool) → takes (codesOf c) v ≡ b → m ≤ cond b (lacking m cs vs) (min (narrowOf c .first) (lacking m cs vs))
+        → (m ≤ lacking m cs vs → outside (suc n) cs vs ≡ 0) → cond (allows c v) (outside (suc n) cs vs) n ≡ 0
+    go true q l ih = ap₂ (λ (a b : Bool). cond (a && b) (outside (suc n) cs vs) n) small q ∙ ih l
+    go false q l ih = absurd (omega (arith, low))
+
+-- ---- a frame that is built decodes
+
+module _ (r vs : List ℕ) (lay : T (layout (lenOf r) (fieldsOf r))) (small : opOf r < 65536) (i : Inside (numbersOf r) vs) where
+  many : length (opOf r ∷ vs) ≡ length (fieldsOf r)
+  many = ap suc (i .long) ∙ sym (length-narrows (opNumber ∷ numbersOf r))
+
+  frame-length : length (frameOf r vs) ≡ lenOf r
+  frame-length = length-tab (lenOf r) (byteOf (fieldsOf r) (opOf r ∷ vs))
+
+  -- what the row's fields, the opcode's with them, read in it
+  read-back : reads (fieldsOf r) (bytes (frameOf r vs)) ≡ opOf r ∷ vs
+  unfolding fitting narrowsOf narrowOf
+  read-back =
+      checked-reads (lenOf r) (fieldsOf r) (opOf r ∷ vs) lay many
+      (and-in (ltb (opOf r) 65536) (fitting (narrowsOf (numbersOf r)) vs) (lt→ltb (opOf r) 65536 small) (i .fit))
+
+  opcode-back : opcode (frameOf r vs) ≡ opOf r
+  unfolding reads narrowsOf
+  opcode-back = let e = read-back in cc
+
+  arguments-back : argumentsIn r (frameOf r vs) ≡ vs
+  unfolding reads narrowsOf
+  arguments-back = let e = read-back in cc
+
+  -- no bit of it is stray
+  stray-back : strayAt r (frameOf r vs) ≡ length (frameOf r vs)
+  stray-back =
+      stray-clean (maskOf (fieldsOf r)) (frameOf r vs)
+      (λ j l. let l′ : j < lenOf r = omega (arith, frame-length) in
+      let e : bytes (frameOf r vs) j ≡ byteOf (fieldsOf r) (opOf r ∷ vs) j = getD-tab (lenOf r) (byteOf (fieldsOf r) (opOf r ∷ vs)) j l′ in
+      ap (λ (x : ℕ). bitAnd x (maskOf (fieldsOf r) j)) e ∙ clean (lenOf r) (fieldsOf r) (opOf r ∷ vs) lay many j ∙ sym e)
+
+  judged-back : (k : ℕ) → judged k r (frameOf r vs) ≡ reading k vs
+  unfolding judged
+  judged-back k =
+      let z : lackingAt r (frameOf r vs) ≡ length (frameOf r vs) = ap (lacking (length (frameOf r vs)) (numbersOf r)) arguments-back ∙ i .taken (length (frameOf r vs)) in
+      let q : ltb (length (frameOf r vs)) (length (frameOf r vs)) ≡ false = le-ltb (length (frameOf r vs)) (length (frameOf r vs)) (omega arith) in
+      simp (stray-back, z, q) (ap (reading k) arguments-back)
+
+decode-found : (f : List ℕ) (i : ℕ) → 2 ≤ length f → find rows (opcode f) (length f) ≡ i → i < 39 → decode f ≡ judged (suc i) (getD rows i []) f
+unfolding decode
+decode-found f i h e l = simp (le-ltb (length f) 2 h, e, lt-ltb i 39 l)
+
+pub row-decodes : (i : ℕ) (vs : List ℕ) → i < 39 → outside 1 (numbersOf (getD rows i [])) vs ≡ 0 → decode (frameOf (getD rows i []) vs) ≡ reading (suc i) vs
+row-decodes i vs h e =
+    let r : List ℕ = getD rows i [] in
+    let z : Laid r = row-laid i h in
+    let n : Inside (numbersOf r) vs = inside 0 (numbersOf r) vs e in
+    let o : opOf r < 65536 = row-opcode i h in
+    let el : length (frameOf r vs) ≡ lenOf r = frame-length r vs (z .apart-narrowed) o n in
+    decode-found (frameOf r vs) i (omega (arith, z .least)) (ap₂ (find rows) (opcode-back r vs (z .apart-narrowed) o n) el ∙ row-found i h) h
+    ∙ judged-back r vs (z .apart-narrowed) o n (suc i)
+
+-- ---- what it takes that the checked builder makes a frame
+
+pub record Made (k : ℕ) (vs f : List ℕ) : Type 0 where
+  pub low : 0 < k
+  pub high : k ≤ 39
+  pub none : outside 1 (numbersOf (rowOf k)) vs ≡ 0
+  pub gives : frameOf (rowOf k) vs ≡ f
+
+unless-made : (n : ℕ) (g f : List ℕ) → unless n g ≡ makes f → (n ≡ 0) × (g ≡ f)
+unfolding unless
+unless-made zero g f e = (refl, cc)
+unless-made (suc n) g f e = absurd (let w : _≡_ {A = ℕ} 0 1 = cc in omega arith)
+
+pub made : (k : ℕ) (vs f : List ℕ) → checked k vs ≡ makes f → Made k vs f
+unfolding checked
+made k vs f e = go (ltb 0 k) (leb k 39) refl refl e
+  where
+    n : ℕ
+    n = outside 1 (numbersOf (rowOf k)) vs
+
+    go : (a b : Bool) → ltb 0 k ≡ a → leb k 39 ≡ b → cond (a && b) (unless n (frameOf (rowOf k) vs)) (builder.refuses NotAKind) ≡ makes f → Made k vs f
+    go true true p q z =
+        let u = unless-made n (frameOf (rowOf k) vs) f z in
+        record { low = ltb-true 0 k p; high = leb→le k 39 (of-true _ q); none = u .0; gives = u .1 }
+    go true false p q z = absurd (let w : _≡_ {A = ℕ} 0 1 = cc in omega arith)
+    go false b p q z = absurd (let w : _≡_ {A = ℕ} 0 1 = cc in omega arith)
+
+-- ---- what it takes that a frame decodes
+
+pub record Read (f : List ℕ) (k : ℕ) (vs : List ℕ) : Type 0 where
+  pub at : ℕ
+  pub kind : k ≡ suc at
+  pub row : at < 39
+  pub gives : frameOf (getD rows at []) vs ≡ f
+  pub none : outside 1 (numbersOf (getD rows at [])) vs ≡ 0
+
+-- the frame of what a clean frame holds is the frame
+frame-again : (r f : List ℕ) → opcode f ≡ opOf r → lenOf r ≡ length f → length f ≤ strayAt r f → frameOf r (argumentsIn r f) ≡ f
+unfolding reads narrowsOf
+frame-again r f eo el h =
+    ap₂ (λ (n o : ℕ). tab n (byteOf (fieldsOf r) (o ∷ argumentsIn r f))) el (sym eo)
+    ∙ frame-back (fieldsOf r) f (none-stray (maskOf (fieldsOf r)) f h)
+
+judged-read : (i k : ℕ) (f vs : List ℕ) → i < 39 → opcode f ≡ opOf (getD rows i []) → lenOf (getD rows i []) ≡ length f → judged (suc i) (getD rows i []) f ≡ reading k vs → Read f k vs
+unfolding judged
+judged-read i k f vs h eo el e = go (ltb (strayAt r f) (length f)) (ltb (lackingAt r f) (length f)) refl refl e
+  where
+    r : List ℕ
+    r = getD rows i []
+
+    xs : List ℕ
+    xs = argumentsIn r f
+
+    go : (a b : Bool) → ltb (strayAt r f) (length f) ≡ a → ltb (lackingAt r f) (length f) ≡ b
+        → cond a (decoder.refuses (StrayBit (strayAt r f))) (cond b (decoder.refuses (UnknownCode (lackingAt r f))) (reading (suc i) xs)) ≡ reading k vs → Read f k vs
+    go true b p q z = absurd (let w : _≡_ {A = ℕ} 0 1 = cc in omega arith)
+    go false true p q z = absurd (let w : _≡_ {A = ℕ} 0 1 = cc in omega arith)
+    go false false p q z =
+        let ev : xs ≡ vs = cc in
+        let ek : k ≡ suc i = cc in
+        let st : T (allFit (length f) (numbersOf r)) = subst (λ (n : ℕ). T (allFit n (numbersOf r))) el (row-fits i h) in record {
+          at = i;
+          kind = ek;
+          row = h;
+          gives = ap (frameOf r) (sym ev) ∙ frame-again r f eo el (ltb-false _ _ p);
+          none = ap (outside 1 (numbersOf r)) (sym ev) ∙ none-outside (length f) 1 (numbersOf r) xs (reads-fit (narrowsOf (numbersOf r)) (bytes f)) st (ltb-false _ _ q);
+        }
+
+pub decode-read : (f : List ℕ) (k : ℕ) (vs : List ℕ) → decode f ≡ reading k vs → Read f k vs
+unfolding decode
+decode-read f k vs e = go (ltb (length f) 2) (ltb i 39) (known rows (opcode f)) refl e
+  where
+    i : ℕ
+    i = find rows (opcode f) (length f)
+
+    go : (a b d : Bool) → ltb i 39 ≡ b → cond a (decoder.refuses ShortFrame) (cond b (judged (suc i) (getD rows i []) f) (cond d (decoder.refuses WrongLength) (decoder.refuses UnknownOpcode))) ≡ reading k vs → Read f k vs
+    go true b d p z = absurd (let w : _≡_ {A = ℕ} 0 1 = cc in omega arith)
+    go false false true p z = absurd (let w : _≡_ {A = ℕ} 0 1 = cc in omega arith)
+    go false false false p z = absurd (let w : _≡_ {A = ℕ} 0 1 = cc in omega arith)
+    go false true d p z =
+        let l : i < 39 = ltb-true _ _ p in
+        let g = found-row rows (opcode f) (length f) (rw count l) in
+        judged-read i k f vs l (sym (g .0)) (g .1) z

@@ -1,0 +1,12 @@
+pub mod Listed
+pub mod Steps
+pub mod Masks
+pub mod Returns
+pub mod Fitting
+pub mod Accepted
+pub mod Narrowing
+pub mod Laws
+pub mod Handed
+pub mod Examples
+pub mod Outcome
+pub mod Words

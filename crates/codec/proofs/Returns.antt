@@ -1,0 +1,191 @@
+-- What the returns of the decoder and of the checked builder ask: each branch gives the specification's answer. Assumes nothing.
+use mathlib.Core.Path.{_≡_, refl, sym, ap, ap₂, _∙_, subst}
+use mathlib.Core.Bool.{Bool, true, false, cond, _&&_}
+use mathlib.Core.List.{List, [], _∷_, _++_}
+use Prim.Native.Nat.{ℕ, zero, suc, _+_, _-_, _^_, _≤_, _<_}
+use native.Mathlib.Nat.{not-suc-le-zero}
+use native.Mathlib.Numerals.{add-one}
+use native.Mathlib.Omega.{arith}
+use borrow.Author.Tests.{lt-ltb, le-ltb, le-leb, lt-leb}
+use lib.Dec.{T, eqb, eqb→eq}
+use lib.ListN.{length, getD, take, replicate}
+use lib.Seq.{take-at}
+use Rattle.frame.specs.Layout.{bytes, tab, byteOf, puts, get, maskOf, soundAll, disjoint}
+use Rattle.frame.proofs.Fields.{both-left, length-tab}
+use Rattle.table.specs.Number.{narrowOf, narrowsOf}
+use Rattle.table.specs.Table.{rows, opOf, lenOf, countOf, numbersOf, rowOf, opNumber}
+use Rattle.table.specs.Laid.{find}
+use Rattle.table.proofs.Rows.{count, row-laid}
+use Rattle.refusal.specs.declared.Refusal.the-variants.{ShortFrame, UnknownOpcode, WrongLength, StrayBit, UnknownCode, ArgumentOutside, NotAKind}
+use Rattle.codec.specs.Narrowed.{fieldsOf, frameOf, opcode, argumentsIn, Ready}
+use Rattle.codec.specs.declared.Answer.the-variants.{Kind}
+use Rattle.codec.specs.declared.Decoded.{Decoded}
+use Rattle.codec.specs.declared.Verdict.the-variants.{Frame}
+use Rattle.codec.specs.declared.Built.{Built}
+use Rattle.codec.specs.Decoding as decoder
+use Rattle.codec.specs.Decoding.{reading, stray, strayAt, lacking, lackingAt, judged, known, decode, decoded}
+use Rattle.codec.specs.Building as builder
+use Rattle.codec.specs.Building.{allows, outside, unless, checked, built}
+use Rattle.codec.proofs.Steps.{long-numbers, length-reads, opcode-read}
+use Rattle.codec.proofs.Masks.{masks-are, take-ones, stray-padded, padded-frame}
+
+-- ---- the rows
+
+pub ready : (i : ℕ) → i < 39 → Ready (getD rows i [])
+ready i h =
+    let z = row-laid i h in
+    let r : List ℕ = getD rows i [] in
+    record { few = z .few; most = z .most; inside = both-left (soundAll (lenOf r) (fieldsOf r)) (disjoint (lenOf r) (fieldsOf r)) (z .apart-narrowed) }
+
+pub length-narrows : (cs : List ℕ) → length (narrowsOf cs) ≡ length cs
+unfolding narrowsOf
+length-narrows [] = refl
+length-narrows (c ∷ cs) = ap suc (length-narrows cs)
+
+-- ---- judge
+
+module _ (r : List ℕ) (whole : length r ≡ 13) (rd : Ready r) where
+  pub row-masks : (n : ℕ) → n ≡ countOf r → puts (replicate 12 0) (fieldsOf r) ((2 ^ 64 - 1) ∷ take n (replicate 9 (2 ^ 64 - 1))) ≡ tab 12 (maskOf (fieldsOf r))
+  row-masks n e =
+      let q : length (fieldsOf r) ≡ suc n = length-narrows (opNumber ∷ numbersOf r) ∙ ap suc (long-numbers r whole (rd .few) ∙ sym e) in
+      masks-are (lenOf r) (fieldsOf r) ((2 ^ 64 - 1) ∷ take n (replicate 9 (2 ^ 64 - 1))) (rd .most) (rd .inside)
+      (ap (λ (l : List ℕ). (2 ^ 64 - 1) ∷ l) (take-ones n 9 (2 ^ 64 - 1) (omega (arith, rd .few))) ∙ sym (ap (λ (k : ℕ). replicate k (2 ^ 64 - 1)) q))
+
+  module _ (f : List ℕ) (el : lenOf r ≡ length f) (ms : List ℕ) (p : ℕ) (em : ms ≡ tab 12 (maskOf (fieldsOf r))) (ep : p ≡ stray ms f) where
+    stray-is : strayAt r f ≡ p
+    stray-is = sym (ep ∙ ap (λ (l : List ℕ). stray l f) em ∙ stray-padded (maskOf (fieldsOf r)) f (omega (arith, rd .most)))
+
+    pub judged-stray : (k : ℕ) → p < length f → judged k r f ≡ decoder.refuses (StrayBit p)
+    unfolding judged
+    judged-stray k h = simp (stray-is, lt-ltb p (length f) h)
+
+    module _ (clean : length f ≤ p) (args : List ℕ) (q : ℕ) (ea : args ≡ argumentsIn r f ++ replicate (9 - countOf r) 0) (eq : q ≡ lacking (length f) (numbersOf r) (take (countOf r) args)) where
+      many : length (argumentsIn r f) ≡ countOf r
+      many = length-reads (numbersOf r) (bytes f) ∙ long-numbers r whole (rd .few)
+
+      lacking-is : lackingAt r f ≡ q
+      lacking-is = sym (eq ∙ ap (lacking (length f) (numbersOf r)) (ap (take (countOf r)) ea ∙ take-at (argumentsIn r f) (replicate (9 - countOf r) 0) (countOf r) many))
+
+      pub judged-code : (k : ℕ) → q < length f → judged k r f ≡ decoder.refuses (UnknownCode q)
+      unfolding judged
+      judged-code k h = simp (stray-is, le-ltb p (length f) clean, lacking-is, lt-ltb q (length f) h)
+
+      judged-kind : (k : ℕ) → length f ≤ q → judged k r f ≡ reading k (argumentsIn r f)
+      unfolding judged
+      judged-kind k h = simp (stray-is, le-ltb p (length f) clean, lacking-is, le-ltb q (length f) h)
+
+      pub decoded-kind : (k n : ℕ) → length f ≤ q → n ≡ countOf r → _≡_ {A = Decoded} (record { answer = Kind k; count = n; args = args }) (decoded (judged k r f))
+      unfolding decoded
+      decoded-kind k n h en =
+          ap₂ (λ (m : ℕ) (v : List ℕ). record { answer = Kind k; count = m; args = v }) (en ∙ sym many) (ea ∙ ap (λ (m : ℕ). argumentsIn r f ++ replicate (9 - m) 0) (sym many))
+          ∙ ap decoded (sym (judged-kind k h))
+
+-- ---- decode_by
+
+-- a row that is found has the opcode and the length
+pub found-row : (rs : List (List ℕ)) (o l : ℕ) → find rs o l < length rs → (opOf (getD rs (find rs o l) []) ≡ o) × (lenOf (getD rs (find rs o l) []) ≡ l)
+unfolding find
+found-row [] o l h = absurd (not-suc-le-zero h)
+found-row (r ∷ rs) o l h = go (eqb (opOf r) o) (eqb (lenOf r) l) refl refl h (found-row rs o l)
+  where
+    Both : List ℕ → Type 0
+    Both x = (opOf x ≡ o) × (lenOf x ≡ l)
+
+    go : (a b : Bool) → eqb (opOf r) o ≡ a → eqb (lenOf r) l ≡ b → cond (a && b) 0 (suc (find rs o l)) < suc (length rs) → (find rs o l < length rs → Both (getD rs (find rs o l) []))
+        → Both (getD (r ∷ rs) (cond (a && b) 0 (suc (find rs o l))) [])
+    go true true p q z ih = (eqb→eq (opOf r) o (subst T (sym p) tt), eqb→eq (lenOf r) l (subst T (sym q) tt))
+    go true false p q z ih = ih (omega arith)
+    go false b p q z ih = ih (omega arith)
+
+pub decode-short : (f : List ℕ) → length f < 2 → decode f ≡ decoder.refuses ShortFrame
+unfolding decode
+decode-short f h = simp (lt-ltb (length f) 2 h)
+
+module _ (t : List (List ℕ)) (f : List ℕ) (o i : ℕ) (et : t ≡ rows) (eo : o ≡ get f (narrowOf opNumber)) (ei : i ≡ find t o (length f)) where
+  op : o ≡ opcode f
+  op = eo ∙ opcode-read f
+
+  place : find rows (opcode f) (length f) ≡ i
+  place = sym (ei ∙ ap₂ (λ (x : List (List ℕ)) (y : ℕ). find x y (length f)) et op)
+
+  pub row-ready : i < 39 → Ready (getD t i [])
+  row-ready h = subst (λ (x : List (List ℕ)). Ready (getD x i [])) (sym et) (ready i h)
+
+  pub row-length : i < 39 → lenOf (getD t i []) ≡ length f
+  row-length h =
+      let l : find rows (opcode f) (length f) < length rows = omega (arith, place, count) in
+      ap (λ (x : List (List ℕ)). lenOf (getD x i [])) et ∙ ap (λ (k : ℕ). lenOf (getD rows k [])) (sym place) ∙ found-row rows (opcode f) (length f) l .1
+
+  module _ (two : 2 ≤ length f) where
+    pub decode-row : i < 39 → judged (i + 1) (getD t i []) f ≡ decode f
+    unfolding decode
+    decode-row h =
+        ap₂ (λ (x : List (List ℕ)) (k : ℕ). judged k (getD x i []) f) et (add-one i)
+        ∙ sym (simp (le-ltb (length f) 2 two, place, lt-ltb i 39 h))
+
+    pub decode-known : 39 ≤ i → known t o ≡ true → decoder.refuses WrongLength ≡ decode f
+    unfolding decode
+    decode-known h k =
+        let e : known rows (opcode f) ≡ true = sym (ap₂ known et op) ∙ k in
+        sym (simp (le-ltb (length f) 2 two, place, le-ltb i 39 h, e))
+
+    pub decode-unknown : 39 ≤ i → known t o ≡ false → decoder.refuses UnknownOpcode ≡ decode f
+    unfolding decode
+    decode-unknown h k =
+        let e : known rows (opcode f) ≡ false = sym (ap₂ known et op) ∙ k in
+        sym (simp (le-ltb (length f) 2 two, place, le-ltb i 39 h, e))
+
+-- ---- build
+
+-- where no argument is outside there are as many as the row has fields
+as-many : (n : ℕ) (cs vs : List ℕ) → outside (suc n) cs vs ≡ 0 → length vs ≡ length cs
+unfolding outside
+as-many n [] [] e = refl
+as-many n [] (v ∷ vs) e = absurd (omega arith)
+as-many n (c ∷ cs) [] e = absurd (omega arith)
+as-many n (c ∷ cs) (v ∷ vs) e = go (allows c v) e (as-many (suc n) cs vs)
+  where
+    go : (b : Bool) → cond b (outside (suc (suc n)) cs vs) (suc n) ≡ 0 → (outside (suc (suc n)) cs vs ≡ 0 → length vs ≡ length cs) → suc (length vs) ≡ suc (length cs)
+    go true z ih = ap suc (ih z)
+    go false z ih = absurd (omega arith)
+
+module _ (r vs : List ℕ) (whole : length r ≡ 13) (rd : Ready r) (n : ℕ) (en : n ≡ outside 1 (numbersOf r) vs) where
+  pub built-outside : 0 < n → builder.refuses (ArgumentOutside n) ≡ unless (outside 1 (numbersOf r) vs) (frameOf r vs)
+  unfolding unless
+  built-outside h = some n h ∙ ap (λ (m : ℕ). unless m (frameOf r vs)) en
+    where
+      some : (m : ℕ) → 0 < m → builder.refuses (ArgumentOutside m) ≡ unless m (frameOf r vs)
+      some zero l = absurd (not-suc-le-zero l)
+      some (suc m) l = refl
+
+  module _ (none : n ≤ 0) where
+    zero-outside : outside 1 (numbersOf r) vs ≡ 0
+    zero-outside = omega (arith, en)
+
+    pub arguments-many : length vs ≡ countOf r
+    arguments-many = as-many 0 (numbersOf r) vs zero-outside ∙ long-numbers r whole (rd .few)
+
+    pub built-frame : (o m : ℕ) (out : List ℕ) → o ≡ opOf r → m ≡ lenOf r → out ≡ puts (replicate 12 0) (fieldsOf r) (o ∷ vs)
+        → _≡_ {A = Built} (record { verdict = Frame m; bytes = out }) (built (unless (outside 1 (numbersOf r) vs) (frameOf r vs)))
+    unfolding built unless
+    built-frame o m out eo em e =
+        let el : length (frameOf r vs) ≡ lenOf r = length-tab (lenOf r) (byteOf (fieldsOf r) (opOf r ∷ vs)) in
+        ap₂ (λ (x : ℕ) (l : List ℕ). record { verdict = Frame x; bytes = l }) (em ∙ sym el)
+        (e ∙ ap (λ (x : ℕ). puts (replicate 12 0) (fieldsOf r) (x ∷ vs)) eo ∙ padded-frame (lenOf r) (fieldsOf r) (opOf r ∷ vs) (rd .most) (rd .inside)
+        ∙ ap (λ (x : ℕ). frameOf r vs ++ replicate (12 - x) 0) (sym el))
+        ∙ ap (λ (x : ℕ). built (unless x (frameOf r vs))) (sym zero-outside)
+
+-- ---- checked
+
+module _ (k : ℕ) (vs : List ℕ) where
+  pub checked-zero : k ≡ 0 → builder.refuses NotAKind ≡ checked k vs
+  unfolding checked
+  checked-zero e = sym (simp (le-ltb 0 k (omega arith)))
+
+  pub checked-above : (k ≡ 0 → ⊥) → 39 < k → builder.refuses NotAKind ≡ checked k vs
+  unfolding checked
+  checked-above n h = sym (simp (lt-ltb 0 k (omega arith), lt-leb k 39 h))
+
+  pub checked-kind : (k ≡ 0 → ⊥) → k ≤ 39 → unless (outside 1 (numbersOf (rowOf k)) vs) (frameOf (rowOf k) vs) ≡ checked k vs
+  unfolding checked
+  checked-kind n h = sym (simp (lt-ltb 0 k (omega arith), le-leb k 39 h))

@@ -1,0 +1,368 @@
+// The decoder and the checked builder: a frame's kind and arguments, and the frame of a kind for its arguments, by the one table.
+// The laws that tie them to each other and to the plain builders are in proofs/Laws.antt.
+ghost use mathlib.Core.Path.{_≡_};
+ghost use mathlib.Core.List.{[], _∷_, _++_};
+ghost use Prim.Native.Nat.{_-_, _^_, _≤_, _<_};
+ghost use lib.Dec.{ltb};
+ghost use lib.ListN.{length, getD, take, replicate};
+ghost use Rattle.frame.specs.Layout.{tab, puts, maskOf};
+ghost use Rattle.table.specs.Codes.{lists, isIn, takes};
+ghost use Rattle.table.specs.Table.{rows, lenOf, countOf, numbersOf};
+ghost use Rattle.table.specs.Laid.{find};
+ghost use Rattle.codec.specs.Narrowed.{fieldsOf, frameOf, argumentsIn, Ready};
+ghost use Rattle.codec.specs.Decoding as decoder;
+ghost use Rattle.codec.specs.Decoding.{stray, lower, lacking, judged, known, decode, decoded};
+ghost use Rattle.codec.specs.Building as builder;
+ghost use Rattle.codec.specs.Building.{allows, outside, unless, checked, built};
+use refusal::Refusal;
+
+pub enum Answer {
+    Kind(u64),
+    Refused(Refusal),
+}
+
+// A frame's kind, and its first count arguments; zeros follow.
+pub struct Decoded {
+    pub answer: Answer,
+    pub count: usize,
+    pub args: [u64; 9],
+}
+
+pub enum Verdict {
+    Frame(usize),
+    Refused(Refusal),
+}
+
+// A frame's length, and its bytes; zeros follow.
+pub struct Built {
+    pub verdict: Verdict,
+    pub bytes: [u8; 12],
+}
+
+// The codes of `RxBw`, 64 to a word: bit v % 64 of word v / 64 is set where the enum has the code v.
+const RX_BW_0: u64 = 0x0000_00FF_FFBE_0001;
+
+const RX_BW_64: u64 = 0x0000_00FF_FFFE_0001;
+
+const RX_BW_128: u64 = 0x0000_00FF_FF01_0101;
+
+const RX_BW_192: u64 = 0x8000_00FF_DFBF_0101;
+
+// The lists of codes by number, written the same way: `Sf`, `PblLenDetect`, `Crc`, the LoRa `ExitMode`, `RxBw`.
+const LISTS: [[u64; 4]; 5] = [
+    [0x1FE0, 0, 0, 0],
+    [0x1_0101_0101, 0, 0, 0],
+    [0x1E1F, 0, 0, 0],
+    [0x1_0003, 0, 0, 0],
+    [RX_BW_0, RX_BW_64, RX_BW_128, RX_BW_192],
+];
+
+fn size(x: u32) -> usize
+    ensures { λ r. ⌜ r ≡ x ⌝ }
+{
+    x as usize
+}
+
+fn long(x: u32) -> u64
+    ensures { λ r. ⌜ r ≡ x ⌝ }
+{
+    x as u64
+}
+
+// ---- codes
+
+// Whether a list has the code v.
+fn is_listed(list: usize, v: u64) -> bool
+    ensures { λ r. ⌜ r ≡ isIn v (getD lists list []) ⌝ }
+{
+    if list < 5 {
+        if v < 256 {
+            let word = LISTS[list][(v / 64) as usize];
+            return (word >> (v % 64)) % 2 == 1;
+        }
+    }
+    false
+}
+
+// Whether a field's codes have v.
+fn is_taken(codes: u32, v: u64) -> bool
+    ensures { λ r. ⌜ r ≡ takes codes v ⌝ }
+{
+    if codes == 0 {
+        return true;
+    }
+    if codes < 256 {
+        return v <= long(codes);
+    }
+    is_listed(size(codes - 256), v)
+}
+
+// Whether v has at most w bits.
+fn is_within(w: usize, v: u64) -> bool
+    ensures { λ r. ⌜ r ≡ ltb v (2 ^ w) ⌝ }
+{
+    if w < 64 { v >> w == 0 } else { true }
+}
+
+// Whether v fits the field and its codes have it.
+fn is_allowed(number: u32, v: u64) -> bool
+    ensures { λ r. ⌜ r ≡ allows number v ⌝ }
+{
+    let f = table::narrow_field(number);
+    if is_within(f.w, v) {
+        is_taken(number % 4096, v)
+    } else {
+        false
+    }
+}
+
+// ---- a row's fields
+
+// The opcode and the arguments put into their fields; zeros follow.
+fn packed(row: [u32; 13], op: u64, args: &[u64]) -> [u8; 12]
+    requires { ⌜ (countOf row ≤ 9) × (length (now args) ≡ countOf row) ⌝ }
+    ensures { λ r. ⌜ r ≡ puts (replicate 12 0) (fieldsOf row) (op ∷ now (args .entry)) ⌝ }
+{
+    let mut out = [0u8; 12];
+    frame::put(&mut out, table::narrow_field(table::OPCODE), op);
+    let n = size(row[3]);
+    let mut j: usize = 0;
+    while j < n {
+        frame::put(&mut out, table::narrow_field(row[4 + j]), args[j]);
+        j += 1;
+    }
+    out
+}
+
+// The bits that the row's fields hold.
+fn masks_of(row: [u32; 13]) -> [u8; 12]
+    requires { ⌜ Ready row ⌝ }
+    ensures { λ r. ⌜ r ≡ tab 12 (maskOf (fieldsOf row)) ⌝ }
+{
+    let ones = [u64::MAX; 9];
+    let n = size(row[3]);
+    packed(row, u64::MAX, &ones[0..n])
+}
+
+// The arguments that a frame holds; zeros follow.
+fn arguments_of(row: [u32; 13], frame: &[u8]) -> [u64; 9]
+    requires { ⌜ Ready row ⌝ }
+    ensures { λ r. ⌜ r ≡ argumentsIn row (now (frame .entry)) ++ replicate (9 - countOf row) 0 ⌝ }
+{
+    let mut out = [0u64; 9];
+    let n = size(row[3]);
+    let mut j: usize = 0;
+    while j < n {
+        out[j] = frame::get(frame, table::narrow_field(row[4 + j]));
+        j += 1;
+    }
+    out
+}
+
+// ---- the decoder
+
+// The lowest byte with a bit that its mask lacks, or the frame's length.
+fn first_stray(masks: [u8; 12], frame: &[u8]) -> usize
+    requires { ⌜ length (now frame) ≤ 12 ⌝ }
+    ensures { λ r. ⌜ r ≡ stray masks (now (frame .entry)) ⌝ }
+{
+    let mut i: usize = 0;
+    while i < frame.len() {
+        if frame[i] & masks[i] != frame[i] {
+            return i;
+        }
+        i += 1;
+    }
+    i
+}
+
+// What a field that holds v makes of the lowest byte so far.
+fn lowered(number: u32, v: u64, low: usize) -> usize
+    ensures { λ r. ⌜ r ≡ lower number v low ⌝ }
+{
+    if is_taken(number % 4096, v) {
+        return low;
+    }
+    let f = table::narrow_field(number);
+    if f.first < low { f.first } else { low }
+}
+
+// The lowest byte, below n, of a field that holds a code it lacks, or n.
+fn first_lacking(row: [u32; 13], args: [u64; 9], n: usize) -> usize
+    requires { ⌜ countOf row ≤ 9 ⌝ }
+    ensures { λ r. ⌜ r ≡ lacking n (numbersOf row) (take (countOf row) args) ⌝ }
+{
+    let mut low = n;
+    let mut j = size(row[3]);
+    while 0 < j {
+        j -= 1;
+        let next = lowered(row[4 + j], args[j], low);
+        low = next;
+    }
+    low
+}
+
+fn refused(why: Refusal) -> Decoded
+    ensures { λ r. ⌜ r ≡ decoded (decoder.refuses why) ⌝ }
+{
+    let args = [0u64; 9];
+    Decoded {
+        answer: Answer::Refused(why),
+        count: 0,
+        args,
+    }
+}
+
+// What a frame with the opcode and the length of the row says.
+fn judge(kind: u64, row: [u32; 13], frame: &[u8]) -> Decoded
+    requires { ⌜ Ready row × (lenOf row ≡ length (now frame)) ⌝ }
+    ensures { λ r. ⌜ r ≡ decoded (judged kind row (now (frame .entry))) ⌝ }
+{
+    let n = frame.len();
+    let p = first_stray(masks_of(row), frame);
+    if p < n {
+        return refused(Refusal::StrayBit(p));
+    }
+    let args = arguments_of(row, frame);
+    let q = first_lacking(row, args, n);
+    if q < n {
+        return refused(Refusal::UnknownCode(q));
+    }
+    Decoded {
+        answer: Answer::Kind(kind),
+        count: size(row[3]),
+        args,
+    }
+}
+
+// The place of the row with this opcode and length, or 39.
+fn place_of(t: &[[u32; 13]; 39], op: u64, len: u64) -> usize
+    requires { ⌜ length (now t) ≡ 39 ⌝ }
+    ensures { λ r. ⌜ r ≡ find (now (t .entry)) op len ⌝ }
+{
+    let mut i: usize = 0;
+    while i < 39 {
+        if long(t[i][0]) == op {
+            if long(t[i][1]) == len {
+                return i;
+            }
+        }
+        i += 1;
+    }
+    i
+}
+
+// Whether any row has the opcode.
+fn is_known(t: &[[u32; 13]; 39], op: u64) -> bool
+    requires { ⌜ length (now t) ≡ 39 ⌝ }
+    ensures { λ r. ⌜ r ≡ known (now (t .entry)) op ⌝ }
+{
+    let mut i: usize = 0;
+    while i < 39 {
+        if long(t[i][0]) == op {
+            return true;
+        }
+        i += 1;
+    }
+    false
+}
+
+fn decode_by(t: &[[u32; 13]; 39], frame: &[u8]) -> Decoded
+    requires { ⌜ now t ≡ rows ⌝ }
+    ensures { λ r. ⌜ r ≡ decoded (decode (now (frame .entry))) ⌝ }
+{
+    let n = frame.len();
+    if n < 2 {
+        return refused(Refusal::ShortFrame);
+    }
+    let op = frame::get(frame, table::narrow_field(table::OPCODE));
+    let i = place_of(t, op, n as u64);
+    if i < 39 {
+        let row = t[i];
+        return judge((i + 1) as u64, row, frame);
+    }
+    if is_known(t, op) {
+        refused(Refusal::WrongLength)
+    } else {
+        refused(Refusal::UnknownOpcode)
+    }
+}
+
+// A frame's kind and arguments, or why it has none.
+pub fn decode(frame: &[u8]) -> Decoded
+    ensures { λ r. ⌜ r ≡ decoded (decode (now (frame .entry))) ⌝ }
+{
+    let t = table::table();
+    decode_by(&t, frame)
+}
+
+// ---- the checked builder
+
+// The first argument outside its range, counted from 1; 0 where there is none.
+fn first_outside(row: [u32; 13], args: &[u64]) -> usize
+    requires { ⌜ countOf row ≤ 9 ⌝ }
+    ensures { λ r. ⌜ r ≡ outside 1 (numbersOf row) (now (args .entry)) ⌝ }
+{
+    let n = size(row[3]);
+    let mut j: usize = 0;
+    while j < n {
+        if args.len() <= j {
+            return j + 1;
+        }
+        if is_allowed(row[4 + j], args[j]) {
+            j += 1;
+        } else {
+            return j + 1;
+        }
+    }
+    if n < args.len() { n + 1 } else { 0 }
+}
+
+fn declined(why: Refusal) -> Built
+    ensures { λ r. ⌜ r ≡ built (builder.refuses why) ⌝ }
+{
+    let bytes = [0u8; 12];
+    Built {
+        verdict: Verdict::Refused(why),
+        bytes,
+    }
+}
+
+// The frame of the row's kind, or its first argument that is outside its range.
+fn build(row: [u32; 13], args: &[u64]) -> Built
+    requires { ⌜ Ready row ⌝ }
+    ensures { λ r. ⌜ r ≡ built (unless (outside 1 (numbersOf row) (now (args .entry))) (frameOf row (now (args .entry)))) ⌝ }
+{
+    let bad = first_outside(row, args);
+    if 0 < bad {
+        return declined(Refusal::ArgumentOutside(bad));
+    }
+    let bytes = packed(row, long(row[0]), args);
+    Built {
+        verdict: Verdict::Frame(size(row[1])),
+        bytes,
+    }
+}
+
+// The row at a place of the table.
+fn row_at(i: usize) -> [u32; 13]
+    requires { ⌜ i < 39 ⌝ }
+    ensures { λ r. ⌜ r ≡ getD rows i [] ⌝ }
+{
+    let t = table::table();
+    t[i]
+}
+
+// The frame of a kind for its arguments, or why there is none.
+pub fn checked(kind: u64, args: &[u64]) -> Built
+    ensures { λ r. ⌜ r ≡ built (checked kind (now (args .entry))) ⌝ }
+{
+    if kind == 0 {
+        return declined(Refusal::NotAKind);
+    }
+    if 39 < kind {
+        return declined(Refusal::NotAKind);
+    }
+    let row = row_at((kind - 1) as usize);
+    build(row, args)
+}
