@@ -80,6 +80,41 @@ static void report(const char *name, double *ratios, double hb, double rs) {
         hb / (ROUNDS * SETS), rs / (ROUNDS * SETS));
 }
 
+// Good frames of every kind, one after another, as a reel has them; each builder of the port makes them.
+u64 hb_decode(const u8 *, u64), rs_decode(const u8 *, u64);
+static u8 frames[SETS][16];
+static int sizes[SETS];
+
+static double timed_decoder(reader f) {
+    double t = now();
+    u64 s = 0;
+    for (int r = 0; r < ROUNDS; r++)
+        for (int i = 0; i < SETS; i++) s += f(frames[i], sizes[i]);
+    sum += s;
+    return now() - t;
+}
+
+static void decoders(double *ratios) {
+    double hb = 1e18, rs = 1e18;
+    int kinds = sizeof builders / sizeof *builders;
+    for (int i = 0; i < SETS; i++) {
+        const builder *b = &builders[i % kinds];
+        fill(b);
+        b->rs();
+        sizes[i] = b->size;
+        for (int j = 0; j < b->size; j++) frames[i][j] = out[j];
+    }
+    for (int i = 0; i < SETS; i++)
+        if (hb_decode(frames[i], sizes[i]) != rs_decode(frames[i], sizes[i])) printf("decode differs at %d, kind %d\n", i, i % kinds + 1);
+    for (int r = 0; r < REPEATS; r++) {
+        double x = timed_decoder(hb_decode), y = timed_decoder(rs_decode);
+        ratios[r] = x / y;
+        if (x < hb) hb = x;
+        if (y < rs) rs = y;
+    }
+    report("decode, frames of all kinds in turn", ratios, hb, rs);
+}
+
 int main(void) {
     double ratios[REPEATS];
     for (int i = 0; i < SETS + BYTES; i++) bytes[i] = next();
@@ -112,5 +147,6 @@ int main(void) {
         }
         report(g->name, ratios, hb, rs);
     }
+    decoders(ratios);
     return 0;
 }

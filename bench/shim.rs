@@ -27,6 +27,10 @@ use status::{Intr, Status};
 #[panic_handler]
 fn panic(_: &core::panic::PanicInfo) -> ! { loop {} }
 
+// Nothing unwinds here, but the core library's archive asks for it.
+#[no_mangle]
+pub extern "C" fn rust_eh_personality() {}
+
 // ---- readers: each reads all that there is, and mixes it so that nothing is left out
 
 fn mixed(s: Status) -> u64 {
@@ -93,5 +97,20 @@ response!(rs_cca_result, cmd_common::CcaResultRsp, 6, |r| {
     mixed(r.status()) ^ ((r.rssi_min() as u64) << 1) ^ ((r.rssi_max() as u64) << 2)
         ^ ((r.rssi_avg() as u64) << 3)
 });
+
+// ---- the decoder, beside one written by hand
+
+#[path = "../../bench/decoder.rs"]
+mod decoder;
+
+#[no_mangle]
+pub unsafe extern "C" fn rs_decode(p: *const u8, n: usize) -> u64 {
+    let d = decoder::decode(core::slice::from_raw_parts(p, n));
+    let mut mix = d.refusal as u64 ^ ((d.place as u64) << 8) ^ ((d.kind as u64) << 16) ^ ((d.count as u64) << 24);
+    for (i, v) in d.args.iter().enumerate() {
+        mix ^= v << i;
+    }
+    mix
+}
 
 // ---- builders

@@ -7,6 +7,4 @@ pub mod Accepted
 pub mod Narrowing
 pub mod Laws
 pub mod Handed
-pub mod Examples
 pub mod Outcome
-pub mod Words

@@ -1,13 +1,19 @@
 -- The examples that document 01 marks P, and the ends of some ranges: one list of cases with one claim, proved by computing.
--- Those of the checked builder and the decoder join the list with them.
 -- Assumes nothing.
 use mathlib.Core.Path.{_≡_, refl}
 use mathlib.Core.List.{List, [], _∷_, map}
 use Prim.Native.Nat.{ℕ, _^_}
-use Rattle.frame.specs.Field.{part, sound}
-use Rattle.frame.specs.Layout.{put, tab, tabFrom}
-use Rattle.table.specs.Number.{plainOf}
+use Rattle.frame.specs.Field.{part, mask, read, readTo, sound}
+use Rattle.frame.specs.Layout.{put, tab, tabFrom, byteOf, maskOf, reads}
+use Rattle.table.specs.Number.{plainOf, narrowOf, narrowsOf}
+use Rattle.table.specs.Codes.{lists, rxBwCodes, isIn, takes}
 use Rattle.table.specs.Table.{plain}
+use Rattle.table.specs.Laid.{find}
+use Rattle.refusal.specs.Numbers.{numberOf, placeOf}
+use Rattle.codec.specs.Decoding as decoder
+use Rattle.codec.specs.Decoding.{Reading, reading, stray, lacking, judged, known, decode}
+use Rattle.codec.specs.Building as builder
+use Rattle.codec.specs.Building.{Making, makes, outside, unless, checked}
 use Rattle.status.specs.Codes.{cmdCode, resetCode, modeCode}
 use Rattle.status.specs.Words.{statusOf, intrOf, cmdIn, resetIn, modeIn}
 use Rattle.status.specs.declared.CmdStatus.{CmdStatus}
@@ -30,6 +36,29 @@ pub record Case : Type 0 where
 -- a kind's arguments, and its plain frame
 abbrev builds : ℕ → List ℕ → List ℕ → Case
 builds k args frame = record { given = plain k args; stated = frame }
+
+-- a refusal, as its number and its place; and what is accepted, behind a 0
+abbrev refused : ℕ → ℕ → List ℕ
+refused number place = number ∷ place ∷ []
+
+abbrev accepted : List ℕ → List ℕ
+accepted l = 0 ∷ l
+
+-- a kind's arguments, and what the checked builder answers
+abbrev ofMaking : Making → List ℕ
+ofMaking (makes f) = accepted f
+ofMaking (builder.refuses x) = refused (numberOf x) (placeOf x)
+
+abbrev checks : ℕ → List ℕ → List ℕ → Case
+checks k args answer = record { given = ofMaking (checked k args); stated = answer }
+
+-- a frame, and what the decoder answers: the kind and then the arguments
+abbrev ofReading : Reading → List ℕ
+ofReading (reading k vs) = accepted (k ∷ vs)
+ofReading (decoder.refuses x) = refused (numberOf x) (placeOf x)
+
+abbrev decodes : List ℕ → List ℕ → Case
+decodes f answer = record { given = ofReading (decode f); stated = answer }
 
 -- the bytes of a status, and what it says
 abbrev codes : CmdStatus → ResetSrc → ChipModeStatus → List ℕ
@@ -67,14 +96,18 @@ cases =
     builds 1 (7 ∷ 4 ∷ 1 ∷ 0 ∷ 0 ∷ []) (0x02 ∷ 0x20 ∷ 0x74 ∷ 0x10 ∷ [])
     -- P Sf12, Bw1000, Cr9Cc12, On, DccF: 02 20 C7 9D
     ∷ builds 1 (12 ∷ 7 ∷ 9 ∷ 1 ∷ 3 ∷ []) (0x02 ∷ 0x20 ∷ 0xC7 ∷ 0x9D ∷ [])
-    -- P rx_timeout 16,777,215: 02 0C FF FF FF; 16,777,216: plain 02 0C 00 00 00
+    -- P rx_timeout 16,777,215: 02 0C FF FF FF; 16,777,216: plain 02 0C 00 00 00, checked 6 at 1
     ∷ builds 29 (16777215 ∷ []) (0x02 ∷ 0x0C ∷ 0xFF ∷ 0xFF ∷ 0xFF ∷ [])
+    ∷ checks 29 (16777215 ∷ []) (accepted (0x02 ∷ 0x0C ∷ 0xFF ∷ 0xFF ∷ 0xFF ∷ []))
     ∷ builds 29 (16777216 ∷ []) (0x02 ∷ 0x0C ∷ 0 ∷ 0 ∷ 0 ∷ [])
-    -- P HfPa, LfPaFsm, 0, 0: 02 02 80 00; LfPa with duty 8 gives the same plainly
+    ∷ checks 29 (16777216 ∷ []) (refused 6 1)
+    -- P HfPa, LfPaFsm, 0, 0: 02 02 80 00; LfPa with duty 8 gives the same plainly, checked 6 at 3
     ∷ builds 27 (1 ∷ 0 ∷ 0 ∷ 0 ∷ []) (0x02 ∷ 0x02 ∷ 0x80 ∷ 0 ∷ [])
     ∷ builds 27 (0 ∷ 0 ∷ 8 ∷ 0 ∷ []) (0x02 ∷ 0x02 ∷ 0x80 ∷ 0 ∷ [])
-    -- P Sx126xLr11xx, init 4,096: plain 02 42 10 00
+    ∷ checks 27 (0 ∷ 0 ∷ 8 ∷ 0 ∷ []) (refused 6 3)
+    -- P Sx126xLr11xx, init 4,096: plain 02 42 10 00, checked 6 at 2
     ∷ builds 18 (0 ∷ 4096 ∷ []) (0x02 ∷ 0x42 ∷ 0x10 ∷ 0 ∷ [])
+    ∷ checks 18 (0 ∷ 4096 ∷ []) (refused 6 2)
     -- P Addr2B, 1, 0x0102: 02 2B 21 02 01 then six zeros
     ∷ builds 11 (2 ∷ 1 ∷ 0x0102 ∷ []) (0x02 ∷ 0x2B ∷ 0x21 ∷ 0x02 ∷ 0x01 ∷ 0 ∷ 0 ∷ 0 ∷ 0 ∷ 0 ∷ 0 ∷ [])
     -- P status 04 04: Ok, Cleared, Rx; 08 00: Unknown
@@ -104,10 +137,32 @@ cases =
     -- 7F: 31.75; 00: 0.00
     ∷ snr 0x7F (51 ∷ 49 ∷ 46 ∷ 55 ∷ 53 ∷ [])
     ∷ snr 0 (48 ∷ 46 ∷ 48 ∷ 48 ∷ [])
+    -- P 02 20 40 10: refusal 5 at 2
+    ∷ decodes (0x02 ∷ 0x20 ∷ 0x40 ∷ 0x10 ∷ []) (refused 5 2)
+    ∷ decodes (0x02 ∷ 0x20 ∷ 0x74 ∷ 0x10 ∷ []) (accepted (1 ∷ 7 ∷ 4 ∷ 1 ∷ 0 ∷ 0 ∷ []))
+    ∷ checks 1 (7 ∷ 4 ∷ 1 ∷ 0 ∷ 0 ∷ []) (accepted (0x02 ∷ 0x20 ∷ 0x74 ∷ 0x10 ∷ []))
+    ∷ checks 11 (2 ∷ 1 ∷ 0x0102 ∷ []) (accepted (0x02 ∷ 0x2B ∷ 0x21 ∷ 0x02 ∷ 0x01 ∷ 0 ∷ 0 ∷ 0 ∷ 0 ∷ 0 ∷ 0 ∷ []))
+    -- every 4 before any 5
+    ∷ decodes (0x02 ∷ 0x41 ∷ 0 ∷ 0 ∷ 0x07 ∷ 0x80 ∷ 0 ∷ 0 ∷ 0 ∷ []) (refused 4 5)
+    -- the unit is the fourth of kind 17's nine arguments, and always 0
+    ∷ checks 17 (0 ∷ 0 ∷ 0 ∷ 1 ∷ 0 ∷ 0 ∷ 0 ∷ 0 ∷ 0 ∷ []) (refused 6 4)
+    ∷ decodes (0x02 ∷ 0x41 ∷ 0 ∷ 0 ∷ 0x08 ∷ 0x10 ∷ 0 ∷ 0 ∷ 0 ∷ []) (accepted (17 ∷ 0 ∷ 8 ∷ 1 ∷ 0 ∷ 0 ∷ 0 ∷ 0 ∷ 0 ∷ 0 ∷ []))
+    -- a command is known by opcode and length together
+    ∷ decodes (0x03 ∷ 0x20 ∷ 0x74 ∷ 0x10 ∷ []) (refused 2 0)
+    ∷ decodes (0x02 ∷ 0x0C ∷ []) (refused 3 0)
+    ∷ decodes (0x02 ∷ []) (refused 1 0)
+    ∷ decodes (0x02 ∷ 0x1D ∷ 0x40 ∷ []) (accepted (14 ∷ 1 ∷ 0 ∷ []))
+    ∷ decodes (0x02 ∷ 0x1D ∷ 0x40 ∷ 0 ∷ []) (accepted (15 ∷ 1 ∷ 0 ∷ 0 ∷ 0 ∷ 0 ∷ []))
+    -- kinds, missing and surplus arguments
+    ∷ checks 0 (1 ∷ []) (refused 13 0)
+    ∷ checks 40 [] (refused 13 0)
+    ∷ checks 4 [] (refused 6 1)
+    ∷ checks 4 (1 ∷ 2 ∷ []) (refused 6 2)
+    ∷ checks 4 (256 ∷ 2 ∷ []) (refused 6 1)
     -- P counter 65,535 then 3: 4
     ∷ counter 65535 3 4
     ∷ []
 
 pub examples : map (λ (c : Case). c .given) cases ≡ map (λ (c : Case). c .stated) cases
-unfolding cases put tab tabFrom part sound plainOf loraPacketStatusRsp snrText rssiText tenths hundredths decimal digits
+unfolding cases put tab tabFrom byteOf maskOf reads part mask read readTo sound plainOf narrowOf narrowsOf lists rxBwCodes isIn takes find checked unless outside decode judged known stray lacking loraPacketStatusRsp snrText rssiText tenths hundredths decimal digits
 examples = refl
