@@ -33,11 +33,19 @@ def snake(name):
     return re.sub(r"(?<=[a-z0-9])([A-Z])", r"_\1", name).lower()
 
 
+def conversions(enums, path):
+    """A function for each enum that gives the value at a place; it reads the same in both languages."""
+    out = []
+    for (crate, name), variants in enums.items():
+        full = path(crate, name)
+        arms = "".join(f"        {i} => {full}::{v},\n" for i, v in enumerate(variants[:-1]))
+        out.append(f"fn to_{snake(name)}(i: u64) -> {full} {{\n    match i {{\n{arms}        _ => {full}::{variants[-1]},\n    }}\n}}\n")
+    return out
+
+
 def port(enums, builders):
     out = ["// Made by bench/generate.py: the port exported to C, for bench/run.\n"]
-    for (crate, name), variants in enums.items():
-        arms = "".join(f"        {i} => {crate}::{name}::{v},\n" for i, v in enumerate(variants[:-1]))
-        out.append(f"fn to_{snake(name)}(i: u64) -> {crate}::{name} {{\n    match i {{\n{arms}        _ => {crate}::{name}::{variants[-1]},\n    }}\n}}\n")
+    out += conversions(enums, lambda crate, name: f"{crate}::{name}")
     for kind, crate, name, params, size in builders:
         head = "".join(f"{p}: u64, " for p, _ in params)
         args = []
@@ -57,10 +65,7 @@ def port(enums, builders):
 
 def rust(enums, builders):
     out = [open("bench/shim.rs", encoding="utf8").read().replace("SOURCE", SOURCE)]
-    for (crate, name), variants in enums.items():
-        path = RUST_ENUM.get(name, f"{crate}::{name}")
-        arms = "".join(f"        {i} => {path}::{v},\n" for i, v in enumerate(variants[:-1]))
-        out.append(f"fn to_{snake(name)}(i: u64) -> {path} {{\n    match i {{\n{arms}        _ => {path}::{variants[-1]},\n    }}\n}}\n")
+    out += conversions(enums, lambda crate, name: RUST_ENUM.get(name, f"{crate}::{name}"))
     for kind, crate, name, params, size in builders:
         head = "".join(f"{p}: u64, " for p, _ in params)
         args = []
