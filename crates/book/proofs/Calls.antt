@@ -1,0 +1,131 @@
+-- A call on bytes, by what is read in them: it is turned away and alters nothing (`turned-away`), or it is the step on the frames (`accept`).
+-- And the empty book: make and clear.
+-- Assumes nothing.
+use mathlib.Core.Path.{ap, ap₂, refl, sym, _∙_, _≡_}
+use mathlib.Core.List.{List, [], append-nil, _++_, _∷_}
+use Prim.Native.Nat.{suc, zero, ℕ, _%_, _*_, _+_, _-_, _/_, _<_, _≤_}
+use native.Mathlib.Omega.{arith}
+use borrow.Author.Tests.{le-leb, lt-leb}
+use lib.ListN.{drop, length, length-replicate, replicate, replicate-append-replicate, set, take}
+use lib.Seq.{drop-length, paste, take-all}
+use Rattle.refusal.specs.declared.Refusal.{Refusal}
+use Rattle.refusal.specs.declared.Refusal.the-variants.{BufferSize}
+use Rattle.book.specs.declared.Answer.{Answer}
+use Rattle.book.specs.declared.Answer.the-variants.{Done, Refused}
+use Rattle.book.specs.Plain.{Turn, become, clearOn, flat}
+use Rattle.book.specs.Book.{Contents, Layout, call, header, holds, image, judge, longest, made, opened, place, refused, roomOf, start, verdict, words}
+use Rattle.book.specs.Edits.{setWord}
+use Rattle.book.proofs.Judged.{Reads, judge-reads}
+
+pub record Holds (l : Layout) (b : List ℕ) : Type 0 where
+  pub frames : List (List ℕ)
+  pub reads : judge l b ≡ holds frames
+  pub opens : opened l b ≡ holds frames
+
+-- a book that opens reads as frames
+pub opened-holds : (l : Layout) (b : List ℕ) (n : ℕ) → Done n ≡ verdict (opened l b) → Holds l b
+unfolding opened
+opened-holds l b n h = go (judge l b) refl h
+  where
+    go : (r : Contents) → judge l b ≡ r → Done n ≡ verdict r → Holds l b
+    go (refused x) e z = let y : _≡_ {A = ℕ} 0 1 = cc in absurd (omega arith)
+    go (holds fs) e z = record { frames = fs; reads = e; opens = e }
+
+-- what a call gives, all of it
+pub record Gives (l : Layout) (s : List ℕ → ℕ → List (List ℕ) → Turn) (o b : List ℕ) (a : Answer) (x y : List ℕ) : Type 0 where
+  pub answer : a ≡ call l s o b .answer
+  pub output : x ≡ call l s o b .output
+  pub bytes : y ≡ call l s o b .bytes
+
+-- a call that is refused by the reading leaves the bytes
+pub turned-away : (l : Layout) (s : List ℕ → ℕ → List (List ℕ) → Turn) (o b : List ℕ) (a : Answer) (r : Refusal) → a ≡ verdict (opened l b) → a ≡ Refused r → Gives l s o b a o b
+unfolding call
+turned-away l s o b a r e z = go (opened l b) refl
+  where
+    go : (q : Contents) → opened l b ≡ q → Gives l s o b a o b
+    go (refused n) w = let u : a ≡ Refused n = e ∙ ap verdict w in record { answer = rw w u; output = rw w; bytes = rw w }
+    go (holds fs) w = let u : a ≡ Done 0 = e ∙ ap verdict w in let y : _≡_ {A = ℕ} 0 1 = cc in absurd (omega arith)
+
+-- a call on a book that reads as frames is the step on them
+pub accept : (l : Layout) (s : List ℕ → ℕ → List (List ℕ) → Turn) (o b : List ℕ) (h : Holds l b) (t : Turn) (y : List ℕ) → s o (roomOf l (length b)) (h .frames) ≡ t → y ≡ image l (length b) (t .frames)
+    → Gives l s o b (t .answer) (t .output) y
+unfolding call
+accept l s o b h t y e q =
+    record { answer = rw (h .opens) (ap (λ (u : Turn). u .answer) (sym e)); output = rw (h .opens) (ap (λ (u : Turn). u .output) (sym e)); bytes = rw (h .opens) (q ∙ ap (λ (u : Turn). image l (length b) (u .frames)) (sym e)) }
+
+-- ---- the empty book
+
+words-none : (p l k : ℕ) → words l k (place p []) ≡ replicate (2 * l) 0
+unfolding words place
+words-none p zero k = refl
+words-none p (suc l) k = ap (λ (r : List ℕ). 0 ∷ 0 ∷ r) (words-none p l (k + 1)) ∙ ap (λ (n : ℕ). replicate n 0) (two l)
+  where
+    two : (l : ℕ) → suc (suc (2 * l)) ≡ 2 * suc l
+    two l = omega arith
+
+-- zeros, with the version and where the frames start stored in front
+pub blank-image : (l : Layout) (b : List ℕ) → start (l .slots) ≤ length b
+    → setWord (set (paste b 0 (replicate (length b) 0) (length b)) 0 (l .version)) 2 (start (l .slots)) ≡ image l (length b) []
+unfolding image header flat setWord
+blank-image l b h =
+    ap (λ (x : List ℕ). setWord (set x 0 (l .version)) 2 (start (l .slots))) whole
+    ∙ ap (λ (n : ℕ). setWord (set (replicate n 0) 0 (l .version)) 2 (start (l .slots))) (four (length b) (omega arith))
+    ∙ ap (λ (r : List ℕ). l .version ∷ 0 ∷ start (l .slots) / 256 ∷ start (l .slots) % 256 ∷ r) rest
+    ∙ ap (λ (n : ℕ). l .version ∷ 0 ∷ n / 256 ∷ n % 256 ∷ (words (l .slots) 0 (place (start (l .slots)) []) ++ replicate (length b - n) 0)) plain
+  where
+    plain : start (l .slots) ≡ start (l .slots) + 0
+    plain = omega arith
+
+    four : (n : ℕ) → 4 ≤ n → n ≡ suc (suc (suc (suc (n - 4))))
+    four n q = omega arith
+
+    rest : replicate {A = ℕ} (length b - 4) 0 ≡ words (l .slots) 0 (place (start (l .slots)) []) ++ replicate (length b - start (l .slots)) 0
+    rest =
+        ap (λ (n : ℕ). replicate n 0) split
+        ∙ sym (replicate-append-replicate (2 * l .slots) (length b - start (l .slots)) 0)
+        ∙ ap (λ (r : List ℕ). r ++ replicate (length b - start (l .slots)) 0) (sym (words-none (start (l .slots)) (l .slots) 0))
+      where
+        split : length b - 4 ≡ 2 * l .slots + (length b - start (l .slots))
+        split = omega arith
+
+    whole : take 0 b ++ take (length b) (replicate (length b) 0) ++ drop (0 + length b) b ≡ replicate (length b) 0
+    whole =
+        ap₂ (λ (x y : List ℕ). x ++ y) (take-all (length b) (replicate (length b) 0) (omega (arith, length-replicate {A = ℕ} (length b) 0)))
+        (ap (λ (n : ℕ). drop n b) zl ∙ drop-length b)
+        ∙ append-nil (replicate (length b) 0)
+      where
+        zl : 0 + length b ≡ length b
+        zl = omega arith
+
+module _ (l : Layout) (b : List ℕ) where
+  pub make-short : length b < start (l .slots) → (Refused BufferSize ≡ made l b .answer) × (b ≡ made l b .bytes)
+  unfolding made
+  make-short a = (rw (lt-leb _ _ a), rw (lt-leb _ _ a))
+
+  pub make-long : start (l .slots) ≤ length b → longest < length b → (Refused BufferSize ≡ made l b .answer) × (b ≡ made l b .bytes)
+  unfolding made
+  make-long h a = (rw (le-leb _ _ h, lt-leb _ _ a), rw (le-leb _ _ h, lt-leb _ _ a))
+
+  pub make-fits : (x : List ℕ) → start (l .slots) ≤ length b → length b ≤ longest → x ≡ image l (length b) [] → (Done 0 ≡ made l b .answer) × (x ≡ made l b .bytes)
+  unfolding made
+  make-fits x h a e = (rw (le-leb _ _ h, le-leb _ _ a), rw (le-leb _ _ h, le-leb _ _ a) e)
+
+pub holds-reads : (l : Layout) (b : List ℕ) (h : Holds l b) → Reads l b (h .frames)
+holds-reads l b h = judge-reads l b (h .frames) (h .reads)
+
+pub clear-done : (l : Layout) (b y : List ℕ) → Holds l b → y ≡ image l (length b) [] → Gives l clearOn [] b (Done 0) [] y
+unfolding clearOn
+clear-done l b y h e = accept l clearOn [] b h (become [] []) y refl e
+
+pub permits : (l : Layout) (s : List ℕ → ℕ → List (List ℕ) → Turn) (o b : List ℕ) (a : Answer) (x y : List ℕ) → Gives l s o b a x y → (a ≡ call l s o b .answer) × (y ≡ call l s o b .bytes)
+permits l s o b a x y g = (g .answer, g .bytes)
+
+pub tells : (l : Layout) (s : List ℕ → ℕ → List (List ℕ) → Turn) (o b : List ℕ) (a : Answer) (x y : List ℕ) → Gives l s o b a x y → (a ≡ call l s o b .answer) × (x ≡ call l s o b .output)
+tells l s o b a x y g = (g .answer, g .output)
+
+pub opened-done : (l : Layout) (b : List ℕ) (n : ℕ) → Done n ≡ verdict (opened l b) → Done 0 ≡ verdict (opened l b)
+opened-done l b n h = go (opened l b) h
+  where
+    go : (r : Contents) → Done n ≡ verdict r → Done 0 ≡ verdict r
+    go (refused x) z = let y : _≡_ {A = ℕ} 0 1 = cc in absurd (omega arith)
+    go (holds fs) z = refl

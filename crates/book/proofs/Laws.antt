@@ -1,0 +1,244 @@
+-- What the plain list keeps to, in document 01's words; with the history theorem it holds of every book.
+--     placed-newest, placed-others    after a put the list has that frame of its kind, and of every other what it had
+--     placed-order, placed-last       "A kind already held is overwritten in its place"; one that is not goes to the end
+--     without-gone, without-others    a removed kind is gone, every other stays
+--     without-room                    a removal frees the bytes of its frame
+--     setting-put                     a setting's frame is put, or refused for room
+--     setting-full, put-eight         8 exactly when the list with the frame would not fit
+--     setting-over                    an overwrite never needs room
+--     checked-put                     what the checked builder makes of a setting is never refused but for room
+--     replay-whole                    a replay reports the sum of the lengths and one byte a frame
+--     reel-read                       and read as a reel it gives the frames
+--     same-bytes                      two sound books are equal exactly when their lists are
+-- Assumes nothing.
+use mathlib.Core.Path.{ap, ap₂, refl, subst, sym, _∙_, _≡_}
+use mathlib.Core.Bool.{Bool, cond, false, false≢true, true}
+use mathlib.Core.List.{List, [], _++_, _∷_}
+use Prim.Native.Nat.{suc, zero, ℕ, _+_, _<_, _≤_}
+use native.Mathlib.Omega.{arith}
+use borrow.Author.Tests.{eq-eqb, eqb-true, le-leb, leb-false, lt-leb, lt-ltb, ltb-true, ne-eqb}
+use lib.Dec.{eqb, leb, ltb}
+use lib.ListN.{drop, getD, length, length-append}
+use lib.Seq.{drop-at, take-at}
+use Rattle.table.specs.Laid.{find}
+use Rattle.table.specs.Table.{rows}
+use Rattle.refusal.specs.Numbers.{numberOf}
+use Rattle.refusal.specs.declared.Refusal.{Refusal}
+use Rattle.refusal.specs.declared.Refusal.the-variants.{NoRoom, ShortFrame, StrayBit, UnknownCode, UnknownOpcode, WrongLength}
+use Rattle.codec.specs.Building.{checked, makes}
+use Rattle.codec.specs.Decoding.{Reading, decode, judged, known, lackingAt, reading, refuses, strayAt}
+use Rattle.codec.specs.Narrowed.{argumentsIn, opcode}
+use Rattle.codec.proofs.Laws.{decode-checked}
+use Rattle.book.specs.declared.Answer.{Answer}
+use Rattle.book.specs.declared.Answer.the-variants.{Done, Refused}
+use Rattle.book.specs.Settings.{lacks, settings, sizeOf, slotFor, slotIn, slotOf}
+use Rattle.book.specs.Plain.{Turn, become, flat, frameOf, framesIn, held, placed, putOn, reelOf, refuse, replayOn, seat, swapIn, without}
+use Rattle.book.specs.Book.{Layout, holds, image, judge}
+use Rattle.book.proofs.Settings.{slotOf-length}
+use Rattle.book.proofs.Shape.{Sound}
+use Rattle.book.proofs.Judged.{Bytes, judge-image}
+use Rattle.book.proofs.Putting.{swap-room}
+use Rattle.book.proofs.Telling.{reel-length}
+
+-- ---- put
+
+-- the slots, in order of first entry
+abbrev pub slotsIn : List (List ℕ) → List ℕ
+slotsIn [] = []
+slotsIn (f ∷ fs) = slotOf f ∷ slotsIn fs
+
+swap-newest : (f : List ℕ) (fs : List (List ℕ)) → held (slotOf f) fs ≡ true → frameOf (slotOf f) (swapIn (slotOf f) f fs) ≡ f
+unfolding held frameOf swapIn
+swap-newest f [] h = absurd (false≢true h)
+swap-newest f (g ∷ fs) h = go (swap-newest f fs) (eqb (slotOf g) (slotOf f)) refl h
+  where
+    go : (held (slotOf f) fs ≡ true → frameOf (slotOf f) (swapIn (slotOf f) f fs) ≡ f) → (t : Bool) → eqb (slotOf g) (slotOf f) ≡ t → cond t true (held (slotOf f) fs) ≡ true
+        → frameOf (slotOf f) (cond t (f ∷ fs) (g ∷ swapIn (slotOf f) f fs)) ≡ f
+    go ih true e q = rw (eq-eqb (slotOf f) (slotOf f) refl)
+    go ih false e q = rw e (ih q)
+
+append-newest : (f : List ℕ) (fs : List (List ℕ)) → held (slotOf f) fs ≡ false → frameOf (slotOf f) (fs ++ (f ∷ [])) ≡ f
+unfolding held frameOf
+append-newest f [] h = rw (eq-eqb (slotOf f) (slotOf f) refl)
+append-newest f (g ∷ fs) h = go (append-newest f fs) (eqb (slotOf g) (slotOf f)) h
+  where
+    go : (held (slotOf f) fs ≡ false → frameOf (slotOf f) (fs ++ (f ∷ [])) ≡ f) → (t : Bool) → cond t true (held (slotOf f) fs) ≡ false
+        → cond t g (frameOf (slotOf f) (fs ++ (f ∷ []))) ≡ f
+    go ih true q = absurd (false≢true (sym q))
+    go ih false q = ih q
+
+pub placed-newest : (f : List ℕ) (fs : List (List ℕ)) → frameOf (slotOf f) (placed f fs) ≡ f
+unfolding placed seat
+placed-newest f fs = go (held (slotOf f) fs) refl
+  where
+    go : (t : Bool) → held (slotOf f) fs ≡ t → frameOf (slotOf f) (cond t (swapIn (slotOf f) f fs) (fs ++ (f ∷ []))) ≡ f
+    go true e = swap-newest f fs e
+    go false e = append-newest f fs e
+
+swap-others : (f : List ℕ) (s : ℕ) → (slotOf f ≡ s → ⊥) → (fs : List (List ℕ)) → frameOf s (swapIn (slotOf f) f fs) ≡ frameOf s fs
+unfolding frameOf swapIn
+swap-others f s n [] = refl
+swap-others f s n (g ∷ fs) = go (swap-others f s n fs) (eqb (slotOf g) (slotOf f)) refl
+  where
+    go : frameOf s (swapIn (slotOf f) f fs) ≡ frameOf s fs → (t : Bool) → eqb (slotOf g) (slotOf f) ≡ t
+        → frameOf s (cond t (f ∷ fs) (g ∷ swapIn (slotOf f) f fs)) ≡ cond (eqb (slotOf g) s) g (frameOf s fs)
+    go ih true e = rw (eqb-true (slotOf g) (slotOf f) e, ne-eqb (slotOf f) s n)
+    go ih false e = ap (λ (x : List ℕ). cond (eqb (slotOf g) s) g x) ih
+
+append-others : (f : List ℕ) (s : ℕ) → (slotOf f ≡ s → ⊥) → (fs : List (List ℕ)) → frameOf s (fs ++ (f ∷ [])) ≡ frameOf s fs
+unfolding frameOf
+append-others f s n [] = rw (ne-eqb (slotOf f) s n)
+append-others f s n (g ∷ fs) = ap (λ (x : List ℕ). cond (eqb (slotOf g) s) g x) (append-others f s n fs)
+
+pub placed-others : (f : List ℕ) (fs : List (List ℕ)) (s : ℕ) → (slotOf f ≡ s → ⊥) → frameOf s (placed f fs) ≡ frameOf s fs
+unfolding placed seat
+placed-others f fs s n = go (held (slotOf f) fs)
+  where
+    go : (t : Bool) → frameOf s (cond t (swapIn (slotOf f) f fs) (fs ++ (f ∷ []))) ≡ frameOf s fs
+    go true = swap-others f s n fs
+    go false = append-others f s n fs
+
+swap-order : (f : List ℕ) (fs : List (List ℕ)) → slotsIn (swapIn (slotOf f) f fs) ≡ slotsIn fs
+unfolding swapIn
+swap-order f [] = refl
+swap-order f (g ∷ fs) = go (swap-order f fs) (eqb (slotOf g) (slotOf f)) refl
+  where
+    go : slotsIn (swapIn (slotOf f) f fs) ≡ slotsIn fs → (t : Bool) → eqb (slotOf g) (slotOf f) ≡ t → slotsIn (cond t (f ∷ fs) (g ∷ swapIn (slotOf f) f fs)) ≡ slotOf g ∷ slotsIn fs
+    go ih true e = ap (λ (n : ℕ). n ∷ slotsIn fs) (sym (eqb-true (slotOf g) (slotOf f) e))
+    go ih false e = ap (λ (l : List ℕ). slotOf g ∷ l) ih
+
+pub placed-order : (f : List ℕ) (fs : List (List ℕ)) → held (slotOf f) fs ≡ true → slotsIn (placed f fs) ≡ slotsIn fs
+unfolding placed seat
+placed-order f fs h = rw h (swap-order f fs)
+
+pub placed-last : (f : List ℕ) (fs : List (List ℕ)) → held (slotOf f) fs ≡ false → placed f fs ≡ fs ++ (f ∷ [])
+unfolding placed seat
+placed-last f fs h = rw h
+
+-- ---- removal
+
+pub without-gone : (s : ℕ) (fs : List (List ℕ)) → Sound fs → held s (without s fs) ≡ false
+unfolding held without
+without-gone s [] S = refl
+without-gone s (g ∷ fs) S = go (without-gone s fs (S .2)) (eqb (slotOf g) s) refl
+  where
+    go : held s (without s fs) ≡ false → (t : Bool) → eqb (slotOf g) s ≡ t → held s (cond t fs (g ∷ without s fs)) ≡ false
+    go ih true e = ap (λ (x : ℕ). held x fs) (sym (eqb-true (slotOf g) s e)) ∙ S .1
+    go ih false e = rw e ih
+
+pub without-others : (s j : ℕ) → (s ≡ j → ⊥) → (fs : List (List ℕ)) → frameOf j (without s fs) ≡ frameOf j fs
+unfolding frameOf without
+without-others s j n [] = refl
+without-others s j n (g ∷ fs) = go (without-others s j n fs) (eqb (slotOf g) s) refl
+  where
+    go : frameOf j (without s fs) ≡ frameOf j fs → (t : Bool) → eqb (slotOf g) s ≡ t → frameOf j (cond t fs (g ∷ without s fs)) ≡ cond (eqb (slotOf g) j) g (frameOf j fs)
+    go ih true e = rw (eqb-true (slotOf g) s e, ne-eqb s j n)
+    go ih false e = ap (λ (x : List ℕ). cond (eqb (slotOf g) j) g x) ih
+
+pub without-room : (s : ℕ) (fs : List (List ℕ)) → Sound fs → held s fs ≡ true → length (flat (without s fs)) + sizeOf s ≡ length (flat fs)
+unfolding held without flat
+without-room s [] S h = absurd (false≢true h)
+without-room s (g ∷ fs) S h = go (without-room s fs (S .2)) (eqb (slotOf g) s) refl h
+  where
+    go : (held s fs ≡ true → length (flat (without s fs)) + sizeOf s ≡ length (flat fs)) → (t : Bool) → eqb (slotOf g) s ≡ t → cond t true (held s fs) ≡ true
+        → length (flat (cond t fs (g ∷ without s fs))) + sizeOf s ≡ length (g ++ flat fs)
+    go ih true e q = omega (arith, length-append g (flat fs), slotOf-length g (S .0), ap sizeOf (eqb-true (slotOf g) s e))
+    go ih false e q = omega (arith, length-append g (flat fs), length-append g (flat (without s fs)), ih q)
+
+-- ---- room
+
+-- an answer's number: 0 where the call is done
+abbrev number : Answer → ℕ
+number (Done n) = 0
+number (Refused x) = numberOf x
+
+module _ (f o : List ℕ) (room : ℕ) (fs : List (List ℕ)) (a : slotOf f < settings) where
+  pub setting-put : putOn f o room fs ≡ cond (leb (length (flat (placed f fs))) room) (become o (placed f fs)) (refuse NoRoom o fs)
+  unfolding putOn
+  setting-put = rw (lt-ltb (slotOf f) settings a)
+
+  -- the list with the frame does not fit, and 8 is the answer; or it fits, and the put is done
+  pub setting-full : (room < length (flat (placed f fs)) → putOn f o room fs ≡ refuse NoRoom o fs) × (putOn f o room fs .answer ≡ Refused NoRoom → room < length (flat (placed f fs)))
+  setting-full = ((λ h. setting-put ∙ rw (lt-leb _ _ h)), λ e. go (leb (length (flat (placed f fs))) room) refl (sym (ap (λ (t : Turn). t .answer) setting-put) ∙ e))
+    where
+      go : (t : Bool) → leb (length (flat (placed f fs))) room ≡ t → cond {A = Turn} t (become o (placed f fs)) (refuse NoRoom o fs) .answer ≡ Refused NoRoom → room < length (flat (placed f fs))
+      go true p q = let z : _≡_ {A = ℕ} 0 1 = cc in absurd (omega arith)
+      go false p q = leb-false _ _ p
+
+  pub setting-over : held (slotOf f) fs ≡ true → Sound fs → length (flat fs) ≤ room → putOn f o room fs ≡ become o (placed f fs)
+  unfolding placed seat
+  setting-over h S r =
+      let e : length (flat (swapIn (slotOf f) f fs)) ≡ length (flat fs) = swap-room (slotOf f) f fs refl (slotOf-length f a) S h in
+      setting-put ∙ rw (h, le-leb (length (flat (swapIn (slotOf f) f fs))) room (omega arith))
+
+-- the decoder refuses by 1 to 5
+decode-own : (f : List ℕ) (x : Refusal) → decode f ≡ refuses x → numberOf x ≤ 5
+unfolding decode judged
+decode-own f x e = go (ltb (length f) 2) (ltb i 39) (known rows (opcode f)) (ltb (strayAt r f) (length f)) (ltb (lackingAt r f) (length f)) e
+  where
+    i : ℕ
+    i = find rows (opcode f) (length f)
+
+    r : List ℕ
+    r = getD rows i []
+
+    own : (y : Refusal) → numberOf y ≤ 5 → refuses y ≡ refuses x → numberOf x ≤ 5
+    own y h q = let w : y ≡ x = cc in subst (λ (z : Refusal). numberOf z ≤ 5) w h
+
+    go : (a b d s t : Bool)
+        → cond a (refuses ShortFrame)
+        (cond b (cond s (refuses (StrayBit (strayAt r f))) (cond t (refuses (UnknownCode (lackingAt r f))) (reading (suc i) (argumentsIn r f)))) (cond d (refuses WrongLength) (refuses UnknownOpcode)))
+        ≡ refuses x → numberOf x ≤ 5
+    go true b d s t q = own ShortFrame (omega arith) q
+    go false true d true t q = own (StrayBit (strayAt r f)) (omega arith) q
+    go false true d false true q = own (UnknownCode (lackingAt r f)) (omega arith) q
+    go false true d false false q = absurd (let w : _≡_ {A = ℕ} 0 1 = cc in omega arith)
+    go false false true s t q = own WrongLength (omega arith) q
+    go false false false s t q = own UnknownOpcode (omega arith) q
+
+-- 8 is given to a setting's frame alone
+pub put-eight : (f o : List ℕ) (room : ℕ) (fs : List (List ℕ)) → putOn f o room fs .answer ≡ Refused NoRoom → (slotOf f < settings) × (room < length (flat (placed f fs)))
+unfolding putOn
+put-eight f o room fs e = go (ltb (slotOf f) settings) refl e
+  where
+    never : (x : Reading) → decode f ≡ x → Refused (lacks x) ≡ Refused NoRoom → ⊥
+    never (reading k vs) p q = let w : _≡_ {A = ℕ} 13 8 = ap number q in omega arith
+    never (refuses x) p q = let w : numberOf x ≡ 8 = ap number q in omega (arith, decode-own f x p)
+
+    go : (t : Bool) → ltb (slotOf f) settings ≡ t
+        → cond {A = Turn} t (cond (leb (length (flat (placed f fs))) room) (become o (placed f fs)) (refuse NoRoom o fs)) (refuse (lacks (decode f)) o fs) .answer ≡ Refused NoRoom
+        → (slotOf f < settings) × (room < length (flat (placed f fs)))
+    go true p q = let a : slotOf f < settings = ltb-true _ _ p in (a, setting-full f o room fs a .1 e)
+    go false p q = absurd (never (decode f) refl q)
+
+pub checked-put : (k : ℕ) (vs f : List ℕ) → checked k vs ≡ makes f → slotFor k < settings → (o : List ℕ) (room : ℕ) (fs : List (List ℕ))
+    → putOn f o room fs ≡ cond (leb (length (flat (placed f fs))) room) (become o (placed f fs)) (refuse NoRoom o fs)
+unfolding slotOf
+checked-put k vs f e a o room fs =
+    let q : slotOf f ≡ slotFor k = ap slotIn (decode-checked k vs f e) in
+    setting-put f o room fs (omega arith)
+
+-- ---- replay
+
+pub replay-whole : (o : List ℕ) (room : ℕ) (fs : List (List ℕ)) → length (flat fs) + length fs ≤ length o
+    → replayOn o room fs ≡ record { answer = Done (length (flat fs) + length fs); output = reelOf fs ++ drop (length (flat fs) + length fs) o; frames = fs }
+unfolding replayOn
+replay-whole o room fs h = rw (reel-length fs, le-leb _ _ h)
+
+pub reel-read : (n : ℕ) (fs : List (List ℕ)) → length fs ≤ n → framesIn n (reelOf fs) ≡ fs
+unfolding framesIn reelOf
+reel-read zero [] h = refl
+reel-read zero (f ∷ fs) h = absurd (omega arith)
+reel-read (suc n) [] h = refl
+reel-read (suc n) (f ∷ fs) h =
+    ap₂ (λ (x : List ℕ) (l : List (List ℕ)). x ∷ l) (take-at f (reelOf fs) (length f) refl)
+    (ap (framesIn n) (drop-at f (reelOf fs) (length f) refl) ∙ reel-read n fs (omega arith))
+
+-- ---- bytes
+
+pub same-bytes : (l : Layout) (b c : List ℕ) (fs gs : List (List ℕ)) → Bytes b → Bytes c → length b ≡ length c → judge l b ≡ holds fs → judge l c ≡ holds gs
+    → (b ≡ c → fs ≡ gs) × (fs ≡ gs → b ≡ c)
+same-bytes l b c fs gs B C n h k = (
+  (λ e. let z : holds fs ≡ holds gs = sym h ∙ ap (judge l) e ∙ k in cc),
+  (λ e. judge-image l b fs B h ∙ ap₂ (λ (x : ℕ) (y : List (List ℕ)). image l x y) n e ∙ sym (judge-image l c gs C k)),
+)

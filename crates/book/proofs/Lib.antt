@@ -1,0 +1,14 @@
+pub mod Settings
+pub mod Shape
+pub mod Steps
+pub mod Pastes
+pub mod Judged
+pub mod Calls
+pub mod Putting
+pub mod Removing
+pub mod Written
+pub mod Telling
+pub mod History
+pub mod Laws
+pub mod Outcome
+pub mod Examples

@@ -1,0 +1,401 @@
+-- A put as edits of a book's bytes: a paste in place (`over-image`) or the frame behind the others (`app-image`) gives the image of the list
+-- after the put. What is known of a sound book's bytes (`is-held`, `end-is`, `count-is` and the like), and what `put` returns (`put-..`).
+-- Assumes nothing.
+use mathlib.Core.Path.{ap, ap₂, refl, subst, sym, _∙_, _≡_}
+use mathlib.Core.Bool.{Bool, cond, false, false≢true, not, true}
+use mathlib.Core.List.{List, [], append-assoc, append-nil, _++_, _∷_}
+use Prim.Native.Nat.{suc, zero, ℕ, _%_, _*_, _+_, _-_, _/_, _<_, _≤_}
+use native.Mathlib.Nat.{le-refl}
+use native.Mathlib.Omega.{arith}
+use borrow.Author.Tests.{eq-eqb, eqb-true, le-leb, le-ltb, lt-leb, lt-ltb, ne-eqb}
+use lib.Dec.{eqb}
+use lib.ListN.{drop, getD, length, length-append, length-set, replicate, set, take}
+use lib.Seq.{drop-append-add, drop-append-le, drop-append-seam, length-paste, paste, set-append-left, take-append-add, take-append-le, take-length}
+use Rattle.refusal.specs.declared.Refusal.{Refusal}
+use Rattle.refusal.specs.declared.Refusal.the-variants.{NoRoom}
+use Rattle.codec.specs.Decoding.{decode}
+use Rattle.book.specs.declared.Answer.{Answer}
+use Rattle.book.specs.declared.Answer.the-variants.{Done, Refused}
+use Rattle.book.specs.Settings.{lacks, settings, sizeOf, slotOf}
+use Rattle.book.specs.Plain.{Turn, become, flat, held, placed, putOn, refuse, seat, swapIn}
+use Rattle.book.specs.Book.{Layout, header, image, offsetAt, place, roomOf, start, wordAt, words}
+use Rattle.book.specs.Edits.{appended, setWord}
+use Rattle.book.proofs.Settings.{slotOf-length}
+use Rattle.book.proofs.Shape.{Sound, count-most, place-from, place-ge, place-in, place-none, place-shift, present-count}
+use Rattle.book.proofs.Calls.{Gives, Holds, accept, holds-reads}
+use Rattle.book.proofs.Judged.{Bytes, Tiled, framesFrom-tiled, judge-image, offsets, words-cong}
+
+-- ---- edits of a list in parts
+
+pub paste-right : (x d : List ℕ) (o : ℕ) (s : List ℕ) (n : ℕ) → paste (x ++ d) (length x + o) s n ≡ x ++ paste d o s n
+paste-right x d o s n =
+    ap₂ (λ (u v : List ℕ). u ++ take n s ++ v) (take-append-add x d o)
+    (ap (λ (i : ℕ). drop i (x ++ d)) (e (length x) o n) ∙ drop-append-add x d (o + n))
+    ∙ ap (λ (u : List ℕ). u ++ drop (o + n) d) (append-assoc x (take o d) (take n s))
+    ∙ append-assoc x (take o d ++ take n s) (drop (o + n) d)
+  where
+    e : (a b c : ℕ) → a + b + c ≡ a + (b + c)
+    e a b c = omega arith
+
+pub paste-left : (d y : List ℕ) (o : ℕ) (s : List ℕ) (n : ℕ) → o + n ≤ length d → paste (d ++ y) o s n ≡ paste d o s n ++ y
+paste-left d y o s n h =
+    ap₂ (λ (u v : List ℕ). u ++ take n s ++ v) (take-append-le o d y (omega arith)) (drop-append-le (o + n) d y h)
+    ∙ sym (append-assoc (take o d ++ take n s) (drop (o + n) d) y)
+
+pub setWord-left : (x y : List ℕ) (i v : ℕ) → i + 1 < length x → setWord (x ++ y) i v ≡ setWord x i v ++ y
+unfolding setWord
+setWord-left x y i v h =
+    ap (λ (l : List ℕ). set l (i + 1) (v % 256)) (set-append-left x y i (v / 256) (omega arith))
+    ∙ set-append-left (set x i (v / 256)) y (i + 1) (v % 256) (simp length-set (omega arith))
+
+pub length-setWord : (l : List ℕ) (i v : ℕ) → length (setWord l i v) ≡ length l
+unfolding setWord
+length-setWord l i v = simp length-set
+
+pub setWord-skip : (a b : ℕ) (l : List ℕ) (i v : ℕ) → setWord (a ∷ b ∷ l) (suc (suc i)) v ≡ a ∷ b ∷ setWord l i v
+unfolding setWord
+setWord-skip a b l i v = ap (λ (n : ℕ). set (a ∷ b ∷ set l i (v / 256)) n (v % 256)) (e i)
+  where
+    e : (i : ℕ) → suc (suc i) + 1 ≡ suc (suc (i + 1))
+    e i = omega arith
+
+pub drop-replicate : (m k : ℕ) → drop {A = ℕ} k (replicate m 0) ≡ replicate (m - k) 0
+drop-replicate m zero = ap (λ (x : ℕ). replicate x 0) (e m)
+  where
+    e : (m : ℕ) → m ≡ m - zero
+    e m = omega arith
+drop-replicate zero (suc k) = ap (λ (x : ℕ). replicate x 0) (e k)
+  where
+    e : (k : ℕ) → zero ≡ zero - suc k
+    e k = omega arith
+drop-replicate (suc m) (suc k) = drop-replicate m k ∙ ap (λ (x : ℕ). replicate x 0) (e m k)
+  where
+    e : (m k : ℕ) → m - k ≡ suc m - suc k
+    e m k = omega arith
+
+-- ---- in place
+
+module _ (k : ℕ) (f : List ℕ) (own : slotOf f ≡ k) (len : length f ≡ sizeOf k) where
+  pub swap-length : (fs : List (List ℕ)) → length (swapIn k f fs) ≡ length fs
+  unfolding swapIn
+  swap-length [] = refl
+  swap-length (g ∷ fs) = go (swap-length fs) (eqb (slotOf g) k)
+    where
+      go : length (swapIn k f fs) ≡ length fs → (t : Bool) → length (cond t (f ∷ fs) (g ∷ swapIn k f fs)) ≡ suc (length fs)
+      go ih true = refl
+      go ih false = ap suc ih
+
+  pub swap-place : (p : ℕ) (fs : List (List ℕ)) → Sound fs → (j : ℕ) → place p (swapIn k f fs) j ≡ place p fs j
+  unfolding swapIn place
+  swap-place p [] s j = refl
+  swap-place p (g ∷ fs) s j = go (swap-place (p + length g) fs (s .2) j) (eqb (slotOf g) k) refl
+    where
+      go : place (p + length g) (swapIn k f fs) j ≡ place (p + length g) fs j → (t : Bool) → eqb (slotOf g) k ≡ t
+          → place p (cond t (f ∷ fs) (g ∷ swapIn k f fs)) j ≡ cond (eqb (slotOf g) j) p (place (p + length g) fs j)
+      go ih true e =
+          ap₂ (λ (x y : ℕ). cond (eqb x j) p (place (p + y) fs j)) (own ∙ sym (eqb-true _ _ e))
+          (len ∙ ap (λ (x : ℕ). sizeOf x) (sym (eqb-true (slotOf g) k e)) ∙ sym (slotOf-length g (s .0)))
+      go ih false e = ap (λ (x : ℕ). cond (eqb (slotOf g) j) p x) ih
+
+  pub swap-flat : (fs : List (List ℕ)) → Sound fs → held k fs ≡ true → flat (swapIn k f fs) ≡ paste (flat fs) (place 0 fs k) f (length f)
+  unfolding swapIn place flat held
+  swap-flat [] s h = absurd (false≢true h)
+  swap-flat (g ∷ fs) s h = go (swap-flat fs (s .2)) (eqb (slotOf g) k) refl h
+    where
+      go : (held k fs ≡ true → flat (swapIn k f fs) ≡ paste (flat fs) (place 0 fs k) f (length f)) → (t : Bool) → eqb (slotOf g) k ≡ t → cond t true (held k fs) ≡ true
+          → flat (cond t (f ∷ fs) (g ∷ swapIn k f fs)) ≡ paste (g ++ flat fs) (cond t 0 (place (0 + length g) fs k)) f (length f)
+      go ih true e q =
+          ap₂ (λ (x y : List ℕ). x ++ y) (sym (take-length f)) (sym (drop-append-seam g (flat fs)) ∙ ap (λ (n : ℕ). drop n (g ++ flat fs)) same)
+        where
+          same : length g ≡ 0 + length f
+          same = omega (arith, slotOf-length g (s .0), len, ap sizeOf (eqb-true (slotOf g) k e))
+      go ih false e q =
+          ap (λ (x : List ℕ). g ++ x) (ih q)
+          ∙ sym (paste-right g (flat fs) (place 0 fs k) f (length f))
+          ∙ ap (λ (x : ℕ). paste (g ++ flat fs) x f (length f)) (c ∙ sym (place-shift (length g) 0 fs k q))
+        where
+          c : length g + place 0 fs k ≡ place 0 fs k + length g
+          c = omega arith
+
+pub words-length : (m k : ℕ) (g : ℕ → ℕ) → length (words m k g) ≡ 2 * m
+unfolding words
+words-length zero k g = refl
+words-length (suc m) k g = omega (arith, words-length m (k + 1) g)
+
+pub swap-room : (k : ℕ) (f : List ℕ) (fs : List (List ℕ)) → slotOf f ≡ k → length f ≡ sizeOf k → Sound fs → held k fs ≡ true → length (flat (swapIn k f fs)) ≡ length (flat fs)
+swap-room k f fs own len s h =
+    ap length (swap-flat k f own len fs s h) ∙ length-paste (flat fs) (place 0 fs k) f (length f) (omega (arith, place-in 0 fs k s h)) (le-refl (length f))
+
+pub header-length : (l : Layout) (fs : List (List ℕ)) → length (header l fs) ≡ start (l .slots)
+unfolding header
+header-length l fs = omega (arith, words-length (l .slots) 0 (place (start (l .slots)) fs))
+
+header-swap : (l : Layout) (k : ℕ) (f : List ℕ) → slotOf f ≡ k → length f ≡ sizeOf k → (fs : List (List ℕ)) → Sound fs → length (flat (swapIn k f fs)) ≡ length (flat fs) → header l (swapIn k f fs) ≡ header l fs
+unfolding header
+header-swap l k f own len fs s e =
+    ap₂ (λ (c : ℕ) (r : List ℕ). l .version ∷ c ∷ r) (swap-length k f own len fs)
+    (ap₂ (λ (x : ℕ) (r : List ℕ). (start (l .slots) + x) / 256 ∷ (start (l .slots) + x) % 256 ∷ r) e
+    (words-cong (l .slots) 0 (place (start (l .slots)) (swapIn k f fs)) (place (start (l .slots)) fs) (λ j a b. swap-place k f own len (start (l .slots)) fs s j)))
+
+pub over-image : (l : Layout) (n k : ℕ) (f : List ℕ) (fs : List (List ℕ)) → slotOf f ≡ k → length f ≡ sizeOf k → Sound fs → held k fs ≡ true
+    → paste (image l n fs) (place (start (l .slots)) fs k) f (length f) ≡ image l n (swapIn k f fs)
+unfolding image
+over-image l n k f fs own len s h =
+    ap (λ (i : ℕ). paste (header l fs ++ (flat fs ++ z)) i f (length f)) at
+    ∙ paste-right (header l fs) (flat fs ++ z) (place 0 fs k) f (length f)
+    ∙ ap (λ (r : List ℕ). header l fs ++ r) (paste-left (flat fs) z (place 0 fs k) f (length f) room)
+    ∙ ap₂ (λ (r u : List ℕ). r ++ (u ++ z)) (sym (header-swap l k f own len fs s same)) (sym body)
+    ∙ ap (λ (m : ℕ). header l (swapIn k f fs) ++ (flat (swapIn k f fs) ++ replicate (n - (start (l .slots) + m)) 0)) (sym same)
+  where
+    z : List ℕ
+    z = replicate (n - (start (l .slots) + length (flat fs))) 0
+
+    at : place (start (l .slots)) fs k ≡ length (header l fs) + place 0 fs k
+    at = omega (arith, place-from (start (l .slots)) fs k h, header-length l fs)
+
+    room : place 0 fs k + length f ≤ length (flat fs)
+    room = omega (arith, place-in 0 fs k s h)
+
+    body : flat (swapIn k f fs) ≡ paste (flat fs) (place 0 fs k) f (length f)
+    body = swap-flat k f own len fs s h
+
+    same : length (flat (swapIn k f fs)) ≡ length (flat fs)
+    same = ap length body ∙ length-paste (flat fs) (place 0 fs k) f (length f) room (le-refl (length f))
+
+-- ---- at the end
+
+pub flat-append : (fs : List (List ℕ)) (f : List ℕ) → flat (fs ++ (f ∷ [])) ≡ flat fs ++ f
+unfolding flat
+flat-append [] f = append-nil f
+flat-append (g ∷ fs) f = ap (λ (r : List ℕ). g ++ r) (flat-append fs f) ∙ sym (append-assoc g (flat fs) f)
+
+pub place-append : (p : ℕ) (fs : List (List ℕ)) (f : List ℕ) → held (slotOf f) fs ≡ false → place p (fs ++ (f ∷ [])) (slotOf f) ≡ p + length (flat fs)
+unfolding place held flat
+place-append p [] f h = ap (λ (t : Bool). cond t p 0) (eq-eqb (slotOf f) (slotOf f) refl) ∙ e p
+  where
+    e : (p : ℕ) → p ≡ p + 0
+    e p = omega arith
+place-append p (g ∷ fs) f h = go (place-append (p + length g) fs f) (eqb (slotOf g) (slotOf f)) h
+  where
+    go : (held (slotOf f) fs ≡ false → place (p + length g) (fs ++ (f ∷ [])) (slotOf f) ≡ p + length g + length (flat fs)) → (t : Bool) → cond t true (held (slotOf f) fs) ≡ false
+        → cond t p (place (p + length g) (fs ++ (f ∷ [])) (slotOf f)) ≡ p + length (g ++ flat fs)
+    go ih true q = absurd (false≢true (sym q))
+    go ih false q = omega (arith, ih q, length-append g (flat fs))
+
+pub place-other : (p : ℕ) (fs : List (List ℕ)) (f : List ℕ) (j : ℕ) → (slotOf f ≡ j → ⊥) → place p (fs ++ (f ∷ [])) j ≡ place p fs j
+unfolding place
+place-other p [] f j n = ap (λ (t : Bool). cond t p 0) (ne-eqb (slotOf f) j n)
+place-other p (g ∷ fs) f j n = ap (λ (x : ℕ). cond (eqb (slotOf g) j) p x) (place-other (p + length g) fs f j n)
+
+-- a store of one slot's offset
+pub words-set : (l j : ℕ) (g h : ℕ → ℕ) (k v : ℕ) → k < l → h (j + k) ≡ v → ((x : ℕ) → (j + k ≡ x → ⊥) → g x ≡ h x) → setWord (words l j g) (2 * k) v ≡ words l j h
+unfolding words setWord
+words-set zero j g h k v a e n = absurd (omega arith)
+words-set (suc l) j g h zero v a e n =
+    ap₂ (λ (x : ℕ) (r : List ℕ). x / 256 ∷ x % 256 ∷ r) (sym e ∙ ap h (z j)) (words-cong l (j + 1) g h (λ x p q. n x (λ w. absurd (omega arith))))
+  where
+    z : (j : ℕ) → j + zero ≡ j
+    z j = omega arith
+words-set (suc l) j g h (suc k) v a e n =
+    ap (λ (i : ℕ). setWord (words (suc l) j g) i v) (two k)
+    ∙ setWord-skip (g j / 256) (g j % 256) (words l (j + 1) g) (2 * k) v
+    ∙ ap₂ (λ (x : ℕ) (r : List ℕ). x / 256 ∷ x % 256 ∷ r) (n j (λ w. absurd (omega arith)))
+    (words-set l (j + 1) g h k v (omega arith) (ap h (sh j k) ∙ e) (λ x w. n x (λ u. w (sh j k ∙ u))))
+  where
+    two : (k : ℕ) → 2 * suc k ≡ suc (suc (2 * k))
+    two k = omega arith
+
+    sh : (j k : ℕ) → j + 1 + k ≡ j + suc k
+    sh j k = omega arith
+
+length-one : (fs : List (List ℕ)) (f : List ℕ) → length (fs ++ (f ∷ [])) ≡ length fs + 1
+length-one fs f = length-append fs (f ∷ [])
+
+-- the header, with one more frame
+header-append : (l : Layout) (fs : List (List ℕ)) (f : List ℕ) → held (slotOf f) fs ≡ false → slotOf f < l .slots
+    → setWord (setWord (set (header l fs) 1 (length fs + 1)) 2 (start (l .slots) + length (flat fs) + length f)) (4 + 2 * slotOf f) (start (l .slots) + length (flat fs)) ≡ header l (fs ++ (f ∷ []))
+unfolding header setWord
+header-append l fs f fresh a =
+    let c : ℕ = length fs + 1 in
+    let h : ℕ = (start (l .slots) + length (flat fs) + length f) / 256 in
+    let w : ℕ = (start (l .slots) + length (flat fs) + length f) % 256 in
+    ap (λ (i : ℕ). setWord (l .version ∷ c ∷ h ∷ w ∷ words (l .slots) 0 (place (start (l .slots)) fs)) i (start (l .slots) + length (flat fs))) (four (2 * slotOf f))
+    ∙ setWord-skip (l .version) c (h ∷ w ∷ words (l .slots) 0 (place (start (l .slots)) fs)) (suc (suc (2 * slotOf f))) (start (l .slots) + length (flat fs))
+    ∙ ap (λ (r : List ℕ). l .version ∷ c ∷ r) (setWord-skip h w (words (l .slots) 0 (place (start (l .slots)) fs)) (2 * slotOf f) (start (l .slots) + length (flat fs)))
+    ∙ ap₂ (λ (c : ℕ) (r : List ℕ). l .version ∷ c ∷ r) (sym (length-one fs f))
+    (ap₂ (λ (x : ℕ) (r : List ℕ). x / 256 ∷ x % 256 ∷ r) total
+    (words-set (l .slots) 0 (place (start (l .slots)) fs) (place (start (l .slots)) (fs ++ (f ∷ []))) (slotOf f) (start (l .slots) + length (flat fs)) a
+    (ap (place (start (l .slots)) (fs ++ (f ∷ []))) (z (slotOf f)) ∙ place-append (start (l .slots)) fs f fresh)
+    (λ x n. sym (place-other (start (l .slots)) fs f x (λ u. n (z (slotOf f) ∙ u))))))
+  where
+    four : (n : ℕ) → 4 + n ≡ suc (suc (suc (suc n)))
+    four n = omega arith
+
+    z : (n : ℕ) → 0 + n ≡ n
+    z n = omega arith
+
+    total : start (l .slots) + length (flat fs) + length f ≡ start (l .slots) + length (flat (fs ++ (f ∷ [])))
+    total = omega (arith, ap length (flat-append fs f), length-append (flat fs) f)
+
+pub app-image : (l : Layout) (n : ℕ) (f : List ℕ) (fs : List (List ℕ)) → held (slotOf f) fs ≡ false → slotOf f < l .slots → start (l .slots) + length (flat fs) + length f ≤ n
+    → setWord (setWord (set (paste (image l n fs) (start (l .slots) + length (flat fs)) f (length f)) 1 (length fs + 1)) 2 (start (l .slots) + length (flat fs) + length f)) (4 + 2 * slotOf f) (start (l .slots) + length (flat fs)) ≡ image l n (fs ++ (f ∷ []))
+unfolding image
+app-image l n f fs h a room =
+    ap (λ (x : List ℕ). setWord (setWord (set x 1 (length fs + 1)) 2 e') (4 + 2 * slotOf f) e) pasted
+    ∙ ap (λ (x : List ℕ). setWord (setWord x 2 e') (4 + 2 * slotOf f) e) (set-append-left (header l fs) rest 1 (length fs + 1) (omega (arith, header-length l fs)))
+    ∙ ap (λ (x : List ℕ). setWord x (4 + 2 * slotOf f) e) (setWord-left (set (header l fs) 1 (length fs + 1)) rest 2 e' (simp length-set (omega (arith, header-length l fs))))
+    ∙ setWord-left (setWord (set (header l fs) 1 (length fs + 1)) 2 e') rest (4 + 2 * slotOf f) e (omega (arith, len))
+    ∙ ap₂ (λ (u v : List ℕ). u ++ v) (header-append l fs f h a) tail
+  where
+    e : ℕ
+    e = start (l .slots) + length (flat fs)
+
+    e' : ℕ
+    e' = start (l .slots) + length (flat fs) + length f
+
+    z : ℕ
+    z = n - (start (l .slots) + length (flat fs))
+
+    rest : List ℕ
+    rest = flat fs ++ (f ++ replicate (z - length f) 0)
+
+    ends : start (l .slots) + length (flat fs) ≡ length (header l fs) + (length (flat fs) + 0)
+    ends = omega (arith, header-length l fs)
+
+    len : length (setWord (set (header l fs) 1 (length fs + 1)) 2 e') ≡ start (l .slots)
+    len = length-setWord (set (header l fs) 1 (length fs + 1)) 2 e' ∙ length-set (header l fs) 1 (length fs + 1) ∙ header-length l fs
+
+    front : paste (replicate z 0) 0 f (length f) ≡ f ++ replicate (z - length f) 0
+    front = ap₂ (λ (u v : List ℕ). u ++ v) (take-length f) (ap (λ (i : ℕ). drop {A = ℕ} i (replicate z 0)) (zz (length f)) ∙ drop-replicate z (length f))
+      where
+        zz : (m : ℕ) → 0 + m ≡ m
+        zz m = omega arith
+
+    pasted : paste (header l fs ++ (flat fs ++ replicate z 0)) (start (l .slots) + length (flat fs)) f (length f) ≡ header l fs ++ rest
+    pasted =
+        ap (λ (i : ℕ). paste (header l fs ++ (flat fs ++ replicate z 0)) i f (length f)) ends
+        ∙ paste-right (header l fs) (flat fs ++ replicate z 0) (length (flat fs) + 0) f (length f)
+        ∙ ap (λ (r : List ℕ). header l fs ++ r) (paste-right (flat fs) (replicate z 0) 0 f (length f) ∙ ap (λ (r : List ℕ). flat fs ++ r) front)
+
+    left : z - length f ≡ n - (start (l .slots) + length (flat (fs ++ (f ∷ []))))
+    left = omega (arith, ap length (flat-append fs f), length-append (flat fs) f)
+
+    tail : rest ≡ flat (fs ++ (f ∷ [])) ++ replicate (n - (start (l .slots) + length (flat (fs ++ (f ∷ []))))) 0
+    tail =
+        sym (append-assoc (flat fs) f (replicate (z - length f) 0))
+        ∙ ap₂ (λ (u : List ℕ) (m : ℕ). u ++ replicate m 0) (sym (flat-append fs f)) left
+
+-- ---- what a put answers
+
+module _ (f o : List ℕ) (n : ℕ) (fs : List (List ℕ)) where
+  putOn-bad : settings ≤ slotOf f → putOn f o n fs ≡ refuse (lacks (decode f)) o fs
+  unfolding putOn
+  putOn-bad a = rw (le-ltb _ _ a)
+
+  module _ (a : slotOf f < settings) where
+    pub putOn-over : held (slotOf f) fs ≡ true → length (flat (swapIn (slotOf f) f fs)) ≤ n → putOn f o n fs ≡ become o (swapIn (slotOf f) f fs)
+    unfolding putOn placed seat
+    putOn-over h r = rw (lt-ltb _ _ a, h, le-leb _ _ r)
+
+    pub putOn-app : held (slotOf f) fs ≡ false → length (flat (fs ++ (f ∷ []))) ≤ n → putOn f o n fs ≡ become o (fs ++ (f ∷ []))
+    unfolding putOn placed seat
+    putOn-app h r = rw (lt-ltb _ _ a, h, le-leb _ _ r)
+
+    pub putOn-full : held (slotOf f) fs ≡ false → n < length (flat (fs ++ (f ∷ []))) → putOn f o n fs ≡ refuse NoRoom o fs
+    unfolding putOn placed seat
+    putOn-full h r = rw (lt-ltb _ _ a, h, lt-leb _ _ r)
+
+module _ (l : Layout) (b : List ℕ) (B : Bytes b) (h : Holds l b) where
+  pub tiling : Tiled (l .slots) b (start (l .slots)) (wordAt b 2) (getD b 1 0) (h .frames)
+  tiling = framesFrom-tiled (l .slots) (getD b 1 0) b (start (l .slots)) (wordAt b 2) (h .frames) (holds-reads l b h .tiled)
+
+  pub is-image : b ≡ image l (length b) (h .frames)
+  is-image = judge-image l b (h .frames) B (h .reads)
+
+  -- a slot's offset is 0 exactly where it is not held
+  pub is-held : (k at : ℕ) → k < l .slots → at ≡ offsetAt b k → (at ≡ 0 → ⊥) → held k (h .frames) ≡ true
+  is-held k at a o n = go (held k (h .frames)) refl
+    where
+      go : (x : Bool) → held k (h .frames) ≡ x → held k (h .frames) ≡ true
+      go true q = q
+      go false q = absurd (n (o ∙ offsets l b (h .frames) (holds-reads l b h) k a ∙ place-none (start (l .slots)) (h .frames) k q))
+
+  pub not-held : (k at : ℕ) → k < l .slots → at ≡ offsetAt b k → at ≡ 0 → held k (h .frames) ≡ false
+  not-held k at a o n = go (held k (h .frames)) refl
+    where
+      go : (x : Bool) → held k (h .frames) ≡ x → held k (h .frames) ≡ false
+      go false q = q
+      go true q = absurd (omega (arith, offsets l b (h .frames) (holds-reads l b h) k a, place-ge (start (l .slots)) (h .frames) k q))
+
+  pub end-is : wordAt b 2 ≡ start (l .slots) + length (flat (h .frames))
+  end-is = sym (tiling .ends)
+
+  pub count-is : getD b 1 0 ≡ length (h .frames)
+  count-is = sym (tiling .many)
+
+  pub count-few : getD b 1 0 ≤ l .slots
+  count-few = omega (arith, holds-reads l b h .count, present-count (l .slots) 0 b, count-most (l .slots) 0 (λ j. not (eqb (offsetAt b j) 0)))
+
+  -- what is held ends within the frames
+  pub held-within : (k at : ℕ) → k < l .slots → at ≡ offsetAt b k → (at ≡ 0 → ⊥) → at + (sizeOf k) ≤ wordAt b 2
+  held-within k at a o n = omega (arith, offsets l b (h .frames) (holds-reads l b h) k a, place-in (start (l .slots)) (h .frames) k (tiling .sound) (is-held k at a o n), tiling .ends)
+
+-- a step that leaves the list leaves the bytes
+pub stay : (l : Layout) (b : List ℕ) (B : Bytes b) (h : Holds l b) (s : List ℕ → ℕ → List (List ℕ) → Turn) (o : List ℕ) (a : Answer) (x : List ℕ)
+    → s o (roomOf l (length b)) (h .frames) ≡ record { answer = a; output = x; frames = h .frames } → Gives l s o b a x b
+stay l b B h s o a x e = accept l s o b h (record { answer = a; output = x; frames = h .frames }) b e (is-image l b B h)
+
+module _ (l : Layout) (b : List ℕ) (B : Bytes b) (h : Holds l b) (f : List ℕ) (k : ℕ) (own : k ≡ slotOf f) where
+  pub put-bad : settings ≤ k → (x : Refusal) → lacks (decode f) ≡ x → Gives l (putOn f) [] b (Refused x) [] b
+  put-bad a x e =
+      stay l b B h (putOn f) [] (Refused x) []
+      (putOn-bad f [] (roomOf l (length b)) (h .frames) (omega arith) ∙ ap (λ (y : Refusal). refuse y [] (h .frames)) e)
+
+  module _ (a : k < settings) (am : k < l .slots) (at : ℕ) (o : at ≡ offsetAt b k) where
+    frame-len : length f ≡ sizeOf k
+    frame-len = slotOf-length f (omega arith) ∙ ap (λ (x : ℕ). sizeOf x) (sym own)
+
+    pub put-room : (at ≡ 0 → ⊥) → at + length f ≤ length b
+    put-room n = omega (arith, frame-len, held-within l b B h k at am o n, holds-reads l b h .high)
+
+    pub put-over : (y : List ℕ) → (at ≡ 0 → ⊥) → y ≡ paste b at f (length f) → Gives l (putOn f) [] b (Done 0) [] y
+    put-over y n e =
+        accept l (putOn f) [] b h (become [] (swapIn (slotOf f) f (h .frames))) y
+        (putOn-over f [] (roomOf l (length b)) (h .frames) (omega arith) hf (omega (arith, swap-room (slotOf f) f (h .frames) refl (slotOf-length f (omega arith)) (tiling l b B h .sound) hf, end-is l b B h, holds-reads l b h .high)))
+        (e
+        ∙ ap₂ (λ (x : List ℕ) (i : ℕ). paste x i f (length f)) (is-image l b B h) (o ∙ offsets l b (h .frames) (holds-reads l b h) k am)
+        ∙ over-image l (length b) k f (h .frames) (sym own) frame-len (tiling l b B h .sound) hk
+        ∙ ap (λ (i : ℕ). image l (length b) (swapIn i f (h .frames))) own)
+      where
+        hk : held k (h .frames) ≡ true
+        hk = is-held l b B h k at am o n
+
+        hf : held (slotOf f) (h .frames) ≡ true
+        hf = subst (λ (x : ℕ). held x (h .frames) ≡ true) own hk
+
+    module _ (z : at ≡ 0) (e : ℕ) (q : e ≡ wordAt b 2) where
+      fresh : held (slotOf f) (h .frames) ≡ false
+      fresh = rw (← own) (not-held l b B h k at am o z)
+
+      more : length (flat (h .frames ++ (f ∷ []))) ≡ length (flat (h .frames)) + length f
+      more = ap length (flat-append (h .frames) f) ∙ length-append (flat (h .frames)) f
+
+      pub put-full : length b - e < length f → Gives l (putOn f) [] b (Refused NoRoom) [] b
+      put-full r = stay l b B h (putOn f) [] (Refused NoRoom) [] (putOn-full f [] (roomOf l (length b)) (h .frames) (omega arith) fresh (omega (arith, more, end-is l b B h, holds-reads l b h .high)))
+
+      pub put-app : (y : List ℕ) → length f ≤ length b - e
+          → y ≡ appended b f k e
+          → Gives l (putOn f) [] b (Done 0) [] y
+      unfolding appended
+      put-app y r p =
+          accept l (putOn f) [] b h (become [] (h .frames ++ (f ∷ []))) y
+          (putOn-app f [] (roomOf l (length b)) (h .frames) (omega arith) fresh (omega (arith, more, room)))
+          (p
+          ∙ rw (ee, count-is l b B h, own) (ap (λ (x : List ℕ). setWord (setWord (set (paste x (start (l .slots) + length (flat (h .frames))) f (length f)) 1 (length (h .frames) + 1)) 2 (start (l .slots) + length (flat (h .frames)) + length f)) (4 + 2 * slotOf f) (start (l .slots) + length (flat (h .frames)))) (is-image l b B h))
+          ∙ app-image l (length b) f (h .frames) fresh (omega arith) room)
+        where
+          ee : e ≡ start (l .slots) + length (flat (h .frames))
+          ee = q ∙ end-is l b B h
+
+          room : start (l .slots) + length (flat (h .frames)) + length f ≤ length b
+          room = omega (arith, end-is l b B h, holds-reads l b h .high)

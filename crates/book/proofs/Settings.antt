@@ -1,0 +1,196 @@
+-- The slots and lengths of the settings, from tests computed over the table, and what the book asks of the decoder:
+--     slotOf-length    a frame that decodes to a setting is as long as its slot says
+--     size-low         no setting's frame has less than three bytes
+--     slot-one         a slot has one kind
+-- Assumes nothing.
+use mathlib.Core.Path.{ap, refl, sym, _∙_, _≡_}
+use mathlib.Core.Bool.{Bool, cond, false, false≢true, true, _&&_}
+use mathlib.Core.List.{List, [], _∷_}
+use Prim.Native.Nat.{suc, zero, ℕ, _%_, _+_, _-_, _/_, _<_, _≤_}
+use native.Mathlib.Omega.{arith}
+use borrow.Author.Tests.{eqb-true, le-leb, leb-true, lt-leb, lt-ltb, ltb-false, ltb-true}
+use lib.Dec.{eqb, leb, ltb}
+use lib.ListN.{getD, length}
+use Rattle.table.specs.Table.{action, lenOf, rowOf, rows}
+use Rattle.refusal.specs.declared.Refusal.{Refusal}
+use Rattle.refusal.specs.declared.Refusal.the-variants.{NotAKind}
+use Rattle.codec.specs.Decoding.{Reading, decode, decoded, reading, refuses}
+use Rattle.codec.specs.declared.Decoded.{Decoded}
+use Rattle.codec.proofs.Handed.{decoded-reading, decoded-refuses}
+use Rattle.codec.proofs.Laws.{decode-kind}
+use Rattle.book.specs.Settings.{lacks, lengths, settings, sizeOf, slotFor, slotIn, slotOf}
+use Rattle.table.specs.Table as table
+use Rattle.codec.specs.declared.Answer.the-variants as decoder
+
+-- ---- a test that passes at every element passes at each
+
+unfoldable every : {A : Type 0} → (ℕ → A → Bool) → ℕ → List A → Bool
+every p i [] = true
+every p i (x ∷ xs) = cond (p i x) (every p (suc i) xs) false
+
+every-at : {A : Type 0} (p : ℕ → A → Bool) (d : A) (l : List A) (i : ℕ) → every p i l ≡ true → (k : ℕ) → k < length l → p (i + k) (getD l k d) ≡ true
+unfolding every
+every-at p d [] i h k a = absurd (omega arith)
+every-at p d (x ∷ xs) i h k a = go (every-at p d xs (suc i)) (p i x) refl h k a
+  where
+    next : (j : ℕ) → suc i + j ≡ i + suc j
+    next j = omega arith
+
+    here : i ≡ i + 0
+    here = omega arith
+
+    go : (every p (suc i) xs ≡ true → (k : ℕ) → k < length xs → p (suc i + k) (getD xs k d) ≡ true) → (t : Bool) → p i x ≡ t
+        → cond t (every p (suc i) xs) false ≡ true → (k : ℕ) → k < suc (length xs) → p (i + k) (getD (x ∷ xs) k d) ≡ true
+    go ih false e q k a = absurd (false≢true q)
+    go ih true e q zero a = ap (λ (n : ℕ). p n x) (sym here) ∙ e
+    go ih true e q (suc k) a = ap (λ (n : ℕ). p n (getD xs k d)) (sym (next k)) ∙ ih q k (omega arith)
+
+-- ---- the tests
+
+-- the place of the first row with a slot
+unfoldable placeFor : List (List ℕ) → ℕ → ℕ
+placeFor [] s = 0
+placeFor (r ∷ rs) s = cond (eqb (table.slotOf r) s) 0 (suc (placeFor rs s))
+
+-- a setting's row has the length of its slot, and no row before it has the slot
+unfoldable suited : ℕ → List ℕ → Bool
+suited i r = cond (ltb (table.slotOf r) settings) (eqb (lenOf r) (sizeOf (table.slotOf r)) && eqb (placeFor rows (table.slotOf r)) i) true
+
+all-suited : every suited 0 rows ≡ true
+unfolding every suited placeFor sizeOf lengths
+all-suited = refl
+
+all-sized : every (λ i n. leb 3 n && leb n 12) 0 (lengths rows) ≡ true
+unfolding every lengths
+all-sized = refl
+
+-- ---- lengths
+
+both : (x y : Bool) → x && y ≡ true → (x ≡ true) × (y ≡ true)
+both true true e = (refl, refl)
+both true false e = absurd (false≢true e)
+both false y e = absurd (false≢true e)
+
+module _ (s : ℕ) (a : s < settings) where
+  sized : leb 3 (sizeOf s) && leb (sizeOf s) 12 ≡ true
+  unfolding sizeOf lengths
+  sized = every-at (λ i n. leb 3 n && leb n 12) 0 (lengths rows) 0 all-sized s a
+
+  pub size-low : 3 ≤ sizeOf s
+  size-low = leb-true _ _ (both (leb 3 (sizeOf s)) (leb (sizeOf s) 12) sized .0)
+
+  pub size-high : sizeOf s ≤ 12
+  size-high = leb-true _ _ (both (leb 3 (sizeOf s)) (leb (sizeOf s) 12) sized .1)
+
+past-end : (l : List ℕ) (k : ℕ) → length l ≤ k → getD l k 0 ≡ 0
+past-end [] k h = refl
+past-end (x ∷ xs) zero h = absurd (omega arith)
+past-end (x ∷ xs) (suc k) h = past-end xs k (omega arith)
+
+pub size-none : (s : ℕ) → settings ≤ s → sizeOf s ≡ 0
+unfolding sizeOf lengths
+size-none s h = past-end (lengths rows) s h
+
+pub size-some : (s : ℕ) → (sizeOf s ≡ 0 → ⊥) → s < settings
+size-some s n = go (ltb s settings) refl
+  where
+    go : (t : Bool) → ltb s settings ≡ t → s < settings
+    go true e = ltb-true s settings e
+    go false e = absurd (n (size-none s (ltb-false s settings e)))
+
+-- ---- slots
+
+module _ (k : ℕ) (low : 0 < k) (high : k ≤ 39) where
+  slot-row : slotFor k ≡ table.slotOf (rowOf k)
+  unfolding slotFor
+  slot-row = rw (lt-ltb 0 k low, le-leb k 39 high)
+
+  row-suited : slotFor k < settings → (lenOf (rowOf k) ≡ sizeOf (slotFor k)) × (placeFor rows (slotFor k) ≡ k - 1)
+  unfolding suited
+  row-suited a =
+      let t : table.slotOf (rowOf k) < settings = omega (arith, slot-row) in
+      let z = rw (lt-ltb (table.slotOf (rowOf k)) settings t) at (every-at suited [] rows 0 all-suited (k - 1) (omega arith)) in
+      let e = both (eqb (lenOf (rowOf k)) (sizeOf (table.slotOf (rowOf k)))) (eqb (placeFor rows (table.slotOf (rowOf k))) (0 + (k - 1))) z in
+      (eqb-true _ _ (e .0) ∙ ap sizeOf (sym slot-row), ap (placeFor rows) slot-row ∙ eqb-true _ _ (e .1) ∙ past-zero (k - 1))
+    where
+      past-zero : (n : ℕ) → 0 + n ≡ n
+      past-zero n = omega arith
+
+-- a kind that is a setting is 1 to 39
+slot-kinds : (k : ℕ) → slotFor k < settings → (0 < k) × (k ≤ 39)
+unfolding slotFor
+slot-kinds k a = go (ltb 0 k) (leb k 39) refl refl a
+  where
+    go : (x y : Bool) → ltb 0 k ≡ x → leb k 39 ≡ y → cond (x && y) (table.slotOf (rowOf k)) action < settings → (0 < k) × (k ≤ 39)
+    go true true p q z = (ltb-true 0 k p, leb-true k 39 q)
+    go true false p q z = absurd (omega arith)
+    go false y p q z = absurd (omega arith)
+
+pub slot-one : (j k : ℕ) → slotFor j < settings → slotFor j ≡ slotFor k → j ≡ k
+slot-one j k a e =
+    let b : slotFor k < settings = omega arith in
+    let p = slot-kinds j a in
+    let q = slot-kinds k b in
+    omega (arith, row-suited j (p .0) (p .1) a .1, row-suited k (q .0) (q .1) b .1, ap (placeFor rows) e)
+
+-- the i-th number of rows of ten
+abbrev pub inTens : List (List ℕ) → ℕ → ℕ
+inTens rs i = getD (getD rs (i / 10) []) (i % 10) 0
+
+-- rows of ten that have the slots of the kinds, or the lengths of the slots
+unfoldable pub slotTens : List (List ℕ) → Bool
+unfolding every
+slotTens rs = every (λ i r. eqb (inTens rs i) (table.slotOf r)) 0 rows
+
+unfoldable pub sizeTens : List (List ℕ) → Bool
+unfolding every lengths
+sizeTens rs = every (λ i n. eqb (inTens rs i) n) 0 (lengths rows)
+
+pub slot-tens : (rs : List (List ℕ)) → slotTens rs ≡ true → (k : ℕ) → 0 < k → k ≤ 39 → inTens rs (k - 1) ≡ slotFor k
+unfolding slotTens
+slot-tens rs t k a b =
+    ap (inTens rs) (past-zero (k - 1)) ∙ eqb-true _ _ (every-at (λ i r. eqb (inTens rs i) (table.slotOf r)) [] rows 0 t (k - 1) (omega arith)) ∙ sym (slot-row k a b)
+  where
+    past-zero : (n : ℕ) → n ≡ 0 + n
+    past-zero n = omega arith
+
+pub size-tens : (rs : List (List ℕ)) → sizeTens rs ≡ true → (s : ℕ) → s < settings → inTens rs s ≡ sizeOf s
+unfolding sizeTens sizeOf lengths
+size-tens rs t s a = ap (inTens rs) (past-zero s) ∙ eqb-true _ _ (every-at (λ i n. eqb (inTens rs i) n) 0 (lengths rows) 0 t s a)
+  where
+    past-zero : (n : ℕ) → n ≡ 0 + n
+    past-zero n = omega arith
+
+pub slot-zero : action ≡ slotFor 0
+unfolding slotFor
+slot-zero = refl
+
+pub slot-past : (k : ℕ) → 39 < k → action ≡ slotFor k
+unfolding slotFor
+slot-past k a = rw (lt-ltb 0 k (omega arith), lt-leb k 39 a)
+
+-- ---- a frame's slot
+
+pub slotOf-length : (f : List ℕ) → slotOf f < settings → length f ≡ sizeOf (slotOf f)
+unfolding slotOf
+slotOf-length f h = go (decode f) refl h
+  where
+    go : (x : Reading) → decode f ≡ x → slotIn x < settings → length f ≡ sizeOf (slotIn x)
+    go (refuses y) e q = absurd (omega arith)
+    go (reading k vs) e q = let d = decode-kind f k vs e in d .2 ∙ row-suited k (d .0) (d .1) q .0
+
+module _ (f : List ℕ) (d : Decoded) (p : d ≡ decoded (decode f)) where
+  pub slotOf-kind : (k : ℕ) → d .answer ≡ decoder.Kind k → slotFor k ≡ slotOf f
+  unfolding slotOf
+  slotOf-kind k q = ap slotIn (sym (decoded-reading (decode f) d k p q))
+
+  pub slotOf-none : (x : Refusal) → d .answer ≡ decoder.Refused x → action ≡ slotOf f
+  unfolding slotOf
+  slotOf-none x q = ap slotIn (sym (decoded-refuses (decode f) d x p q))
+
+  -- why it is no setting
+  pub lacks-kind : (k : ℕ) → d .answer ≡ decoder.Kind k → lacks (decode f) ≡ NotAKind
+  lacks-kind k q = ap lacks (decoded-reading (decode f) d k p q)
+
+  pub lacks-own : (x : Refusal) → d .answer ≡ decoder.Refused x → lacks (decode f) ≡ x
+  lacks-own x q = ap lacks (decoded-refuses (decode f) d x p q)

@@ -1,0 +1,69 @@
+-- A list of calls, one after the other: on a book's bytes, and on the plain list.
+-- Assumes nothing.
+use Prim.Native.Nat.{ℕ}
+use mathlib.Core.List.{List, [], _∷_}
+use Rattle.book.specs.declared.Answer.{Answer}
+use Rattle.book.specs.Plain.{Turn, become, putOn, removeOn, clearOn, askOn, replayOn}
+use Rattle.book.specs.Book.{Layout, Outcome, call, made}
+
+-- ---- runs, whatever the calls are
+
+-- what a caller is given
+pub record Heard : Type 0 where
+  pub answer : Answer
+  pub output : List ℕ
+
+pub record BytesRun : Type 0 where
+  pub heard : List Heard
+  pub bytes : List ℕ
+
+pub record ListRun : Type 0 where
+  pub heard : List Heard
+  pub frames : List (List ℕ)
+
+-- each call on the bytes that the one before left
+unfoldable pub onBytes : {C : Type 0} → (C → List ℕ → Outcome) → List C → List ℕ → BytesRun
+onBytes after [] b = record { heard = []; bytes = b }
+onBytes after (c ∷ cs) b =
+    record {
+      heard = record { answer = after c b .answer; output = after c b .output } ∷ onBytes after cs (after c b .bytes) .heard;
+      bytes = onBytes after cs (after c b .bytes) .bytes;
+    }
+
+-- each call on the list that the one before left
+unfoldable pub onList : {C : Type 0} → (C → List (List ℕ) → Turn) → List C → List (List ℕ) → ListRun
+onList turn [] fs = record { heard = []; frames = fs }
+onList turn (c ∷ cs) fs =
+    record {
+      heard = record { answer = turn c fs .answer; output = turn c fs .output } ∷ onList turn cs (turn c fs .frames) .heard;
+      frames = onList turn cs (turn c fs .frames) .frames;
+    }
+
+-- ---- the calls of a whole book
+
+-- "Calls: make; put a frame; remove a kind; ask for a kind's frame; clear; replay as a reel." Ask and replay have the output that is lent.
+pub data Call : Type 0 where
+  Make : Call
+  Put : List ℕ → Call
+  Remove : ℕ → Call
+  Ask : ℕ → List ℕ → Call
+  Clear : Call
+  Replay : List ℕ → Call
+
+-- what a call makes of bytes: the outcome that its contract names
+unfoldable pub after : Layout → Call → List ℕ → Outcome
+after l Make b = made l b
+after l (Put f) b = call l (putOn f) [] b
+after l (Remove k) b = call l (removeOn k) [] b
+after l (Ask k o) b = call l (askOn k) o b
+after l Clear b = call l clearOn [] b
+after l (Replay o) b = call l replayOn o b
+
+-- what it makes of a list, in a room
+unfoldable pub turn : ℕ → Call → List (List ℕ) → Turn
+turn room Make fs = become [] []
+turn room (Put f) fs = putOn f [] room fs
+turn room (Remove k) fs = removeOn k [] room fs
+turn room (Ask k o) fs = askOn k o room fs
+turn room Clear fs = clearOn [] room fs
+turn room (Replay o) fs = replayOn o room fs

@@ -1,0 +1,5 @@
+pub mod Settings
+pub mod Plain
+pub mod Book
+pub mod Edits
+pub mod History
