@@ -1,0 +1,5 @@
+pub mod Writing
+pub mod Arguments
+pub mod Passing
+pub mod Parts
+pub mod Outcome

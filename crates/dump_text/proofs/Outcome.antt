@@ -1,0 +1,9 @@
+-- The contract of each public function permits one outcome. Assumes nothing.
+use Rattle.once.proofs.Once.{Once, same}
+use Rattle.dump_text.proofs as dump_text
+
+pass-once : Once dump_text.pass.ended dump_text.pass.Reads.Pre dump_text.pass.Reads.Learnt
+pass-once κs a h o u p q i = (
+  same (p .0 .told) (q .0 .told) i,
+  (o .1 .0, (o .1 .1 .0, (o .1 .1 .1 .0, (same (p .0 .stands) (q .0 .stands) i, o .1 .1 .1 .1 .1)))),
+)

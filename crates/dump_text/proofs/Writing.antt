@@ -1,0 +1,107 @@
+-- Texts written one behind the other: `puts-then` joins two of them, and every function that writes cites it. Then the digits of a number, two
+-- at a time, and what numbers after blanks come to.
+-- Assumes nothing.
+use mathlib.Core.Path.{_≡_, refl, sym, ap, _∙_}
+use mathlib.Core.List.{List, [], _∷_, _++_, append-assoc, append-nil}
+use Prim.Native.Nat.{ℕ, suc, _+_, _/_, _≤_, _<_, _^_}
+use native.Mathlib.Omega.{arith}
+use native.Mathlib.Numerals.{add-one}
+use lib.ListN.{length, set, take, getD, length-append}
+use lib.Seq.{sets, length-sets, take-suc}
+use Rattle.refusal.specs.declared.Refusal.{Refusal}
+use Rattle.refusal.specs.Numbers.{numberOf, placeOf}
+use Rattle.codec.specs.Decoding.{reading, refuses}
+use Rattle.reading.specs.Decimal.{digit, decimal}
+use Rattle.reading.proofs.Decimals.{decimal-one, decimal-more, decimal-length}
+use Rattle.dump_text.specs.Text.{blanked, lineOf}
+use Rattle.dump_text.specs.Parts.{Puts}
+
+-- ---- one behind the other
+
+pub sets-append : (l : List ℕ) (i : ℕ) (a b : List ℕ) → sets (sets l i a) (i + length a) b ≡ sets l i (a ++ b)
+sets-append l i [] b = ap (λ (k : ℕ). sets l k b) (omega arith)
+sets-append l i (x ∷ a) b =
+    let e : i + suc (length a) ≡ suc i + length a = omega arith in
+    ap (λ (k : ℕ). sets (sets (set l i x) (suc i) a) k b) e ∙ sets-append (set l i x) (suc i) a b
+
+module _ {a b o p q : List ℕ} {at r s : ℕ} where
+  pub puts-then : Puts a at o r p → Puts b r p s q → Puts (a ++ b) at o s q
+  puts-then u v =
+      record {
+        behind = simp length-append (omega arith);
+        stands =
+            v .stands
+            ∙ ap (λ (l : List ℕ). sets l r b) (u .stands)
+            ∙ ap (λ (k : ℕ). sets (sets o at a) k b) (u .behind)
+            ∙ sets-append o at a b;
+      }
+
+module _ {a o p : List ℕ} {at r : ℕ} where
+  pub puts-length : Puts a at o r p → length p ≡ length o
+  puts-length u = ap length (u .stands) ∙ length-sets o at a
+
+  pub puts-as : (b : List ℕ) → b ≡ a → Puts a at o r p → Puts b at o r p
+  puts-as b e u = rw e u
+
+-- nothing written yet
+pub puts-none : (o : List ℕ) (at : ℕ) → Puts [] at o at o
+puts-none o at = record { behind = omega arith; stands = refl }
+
+-- ---- the digits of a number, two at a time
+
+module _ (n : ℕ) where
+  pub decimal-two : 10 ≤ n → n < 100 → decimal n ≡ (digit (n / 10) ∷ []) ++ (digit n ∷ [])
+  decimal-two h k = decimal-more n h (omega arith) ∙ ap (λ (l : List ℕ). l ++ (digit n ∷ [])) (decimal-one (n / 10) (omega arith))
+
+  pub decimal-hundreds : 100 ≤ n → n < 10 ^ 20 → decimal n ≡ (decimal (n / 100) ++ (digit (n / 10) ∷ [])) ++ (digit n ∷ [])
+  decimal-hundreds h k =
+      let e : n / 10 / 10 ≡ n / 100 = omega arith in
+      decimal-more n (omega arith) k
+      ∙ ap (λ (l : List ℕ). l ++ (digit n ∷ [])) (decimal-more (n / 10) (omega arith) (omega arith))
+      ∙ ap (λ (m : ℕ). (decimal m ++ (digit (n / 10) ∷ [])) ++ (digit n ∷ [])) e
+
+  pub room-one : n < 10 → length (decimal n) ≡ 1
+  room-one h = ap length (decimal-one n h)
+
+  pub room-two : 10 ≤ n → n < 100 → length (decimal n) ≡ 2
+  room-two h k = ap length (decimal-two h k)
+
+  pub room-hundreds : 100 ≤ n → n < 10 ^ 20 → length (decimal n) ≡ length (decimal (n / 100)) + 2
+  room-hundreds h k =
+      ap length (decimal-hundreds h k) ∙ simp length-append (omega arith)
+
+-- ---- numbers after blanks
+
+-- a number of 64 bits has twenty digits at the most
+pub decimal-room : (n : ℕ) → n < 2 ^ 64 → length (decimal n) ≤ 20
+decimal-room n h = decimal-length 19 n (omega arith)
+
+pub blanked-append : (a b : List ℕ) → blanked (a ++ b) ≡ blanked a ++ blanked b
+unfolding blanked
+blanked-append [] b = refl
+blanked-append (n ∷ a) b =
+    ap (λ (l : List ℕ). 32 ∷ decimal n ++ l) (blanked-append a b) ∙ simp append-assoc
+
+pub blanked-one : (n : ℕ) → blanked (n ∷ []) ≡ (32 ∷ []) ++ decimal n
+unfolding blanked
+blanked-one n = simp append-nil
+
+-- the next argument behind the first j
+pub blanked-next : (args : List ℕ) (j : ℕ) → j < length args → blanked (take (j + 1) args) ≡ blanked (take j args) ++ blanked (getD args j 0 ∷ [])
+blanked-next args j h = ap blanked (ap (λ (k : ℕ). take k args) (add-one j) ∙ take-suc args j 0 h) ∙ blanked-append (take j args) (getD args j 0 ∷ [])
+
+pub blanked-three : (i : List ℕ) (a b c : ℕ) → i ++ blanked (a ∷ b ∷ c ∷ []) ≡ ((i ++ blanked (a ∷ [])) ++ blanked (b ∷ [])) ++ blanked (c ∷ [])
+blanked-three i a b c =
+    simp append-assoc (ap (λ (l : List ℕ). i ++ l) (blanked-append (a ∷ []) (b ∷ c ∷ []) ∙ ap (λ (l : List ℕ). blanked (a ∷ []) ++ l) (blanked-append (b ∷ []) (c ∷ []))))
+
+-- ---- lines
+
+pub line-kind : (index kind : ℕ) (args : List ℕ) → lineOf index (reading kind args) ≡ ((decimal index ++ blanked (kind ∷ 0 ∷ 0 ∷ [])) ++ blanked args) ++ (10 ∷ [])
+unfolding lineOf
+line-kind index kind args =
+    ap (λ (l : List ℕ). l ++ (10 ∷ []))
+    (ap (λ (l : List ℕ). decimal index ++ l) (blanked-append (kind ∷ 0 ∷ 0 ∷ []) args) ∙ sym (append-assoc (decimal index) (blanked (kind ∷ 0 ∷ 0 ∷ [])) (blanked args)))
+
+pub line-refusal : (index : ℕ) (why : Refusal) (n p : ℕ) → n ≡ numberOf why → p ≡ placeOf why → lineOf index (refuses why) ≡ (decimal index ++ blanked (0 ∷ n ∷ p ∷ [])) ++ (10 ∷ [])
+unfolding lineOf
+line-refusal index why n p e f = rw (e, f) refl

@@ -1,0 +1,195 @@
+// The text of a dump: a line for each frame of a reel. specs/Text.antt says what the text of a reel is.
+// `pass` works in parts, so that a reel of any length goes through buffers of fixed size: proofs/Parts.antt says that the parts make up the whole.
+ghost use mathlib.Core.Path.{_≡_};
+ghost use mathlib.Core.List.{[], _∷_, _++_};
+ghost use Prim.Native.Nat.{_+_, _≤_};
+ghost use lib.ListN.{length, take};
+ghost use Rattle.reading.specs.Decimal.{digit, decimal};
+ghost use Rattle.codec.specs.Decoding.{reading, refuses, decode};
+ghost use Rattle.reel.specs.Reel.{unreel};
+ghost use Rattle.dump_text.specs.Text.{blanked, lineOf};
+ghost use Rattle.dump_text.specs.Parts.{goesOn, linesOf, Puts, Passes};
+use codec::Answer;
+use reel::Cursor;
+use reel::Step;
+use refusal::Refusal;
+
+// No line is longer: thirteen numbers of up to twenty digits, a blank or a newline behind each.
+const LONGEST: usize = 273;
+
+// How far a pass came: the input bytes that it used, the output bytes that it wrote, and the index of the next frame.
+pub struct Passed {
+    pub used: usize,
+    pub written: usize,
+    pub next: u64,
+}
+
+// ---- numbers
+
+fn put_byte(out: &mut [u8], at: usize, b: u8) -> usize
+    requires { ⌜ at + 1 ≤ length (now out) ⌝ }
+    ensures { λ r. ⌜ Puts (b ∷ []) at (now (out .entry)) r (now (out .exit)) ⌝ }
+{
+    out[at] = b;
+    at + 1
+}
+
+// The last digit of n.
+fn put_digit(out: &mut [u8], at: usize, n: u64) -> usize
+    requires { ⌜ at + 1 ≤ length (now out) ⌝ }
+    ensures { λ r. ⌜ Puts (digit n ∷ []) at (now (out .entry)) r (now (out .exit)) ⌝ }
+{
+    put_byte(out, at, 48 + (n % 10) as u8)
+}
+
+// The digits of n, two at a time.
+fn put_decimal(out: &mut [u8], at: usize, n: u64) -> usize
+    requires { ⌜ at + length (decimal n) ≤ length (now out) ⌝ }
+    ensures { λ r. ⌜ Puts (decimal n) at (now (out .entry)) r (now (out .exit)) ⌝ }
+{
+    if n < 10 {
+        return put_digit(out, at, n);
+    }
+    if n < 100 {
+        let last = put_digit(out, at, n / 10);
+        return put_digit(out, last, n);
+    }
+    let tens = put_decimal(out, at, n / 100);
+    let last = put_digit(out, tens, n / 10);
+    put_digit(out, last, n)
+}
+
+// A blank and a number.
+fn put_number(out: &mut [u8], at: usize, n: u64) -> usize
+    requires { ⌜ at + 21 ≤ length (now out) ⌝ }
+    ensures { λ r. ⌜ Puts (blanked (n ∷ [])) at (now (out .entry)) r (now (out .exit)) ⌝ }
+    ensures { λ r. ⌜ r ≤ at + 21 ⌝ }
+{
+    let to = put_byte(out, at, b' ');
+    put_decimal(out, to, n)
+}
+
+// Numbers, a blank before each.
+fn put_arguments(out: &mut [u8], at: usize, args: &[u64]) -> usize
+    requires { ⌜ (at + 189 ≤ length (now out)) × (length (now args) ≤ 9) ⌝ }
+    ensures { λ r. ⌜ Puts (blanked (now (args .entry))) at (now (out .entry)) r (now (out .exit)) ⌝ }
+    ensures { λ r. ⌜ r ≤ at + 189 ⌝ }
+{
+    let mut to = at;
+    let mut j: usize = 0;
+    while j < args.len() {
+        to = put_number(out, to, args[j]);
+        j += 1;
+    }
+    to
+}
+
+// ---- lines
+
+// The four numbers that every line begins with.
+fn put_head(out: &mut [u8], at: usize, index: u64, kind: u64, refusal: u64, place: u64) -> usize
+    requires { ⌜ at + 83 ≤ length (now out) ⌝ }
+    ensures { λ r. ⌜ Puts (decimal index ++ blanked (kind ∷ refusal ∷ place ∷ [])) at (now (out .entry)) r (now (out .exit)) ⌝ }
+    ensures { λ r. ⌜ r ≤ at + 83 ⌝ }
+{
+    let a = put_decimal(out, at, index);
+    let b = put_number(out, a, kind);
+    let c = put_number(out, b, refusal);
+    put_number(out, c, place)
+}
+
+// The line of a frame that is refused.
+fn put_refusal(out: &mut [u8], at: usize, index: u64, why: Refusal) -> usize
+    requires { ⌜ at + 84 ≤ length (now out) ⌝ }
+    ensures { λ r. ⌜ Puts (lineOf index (refuses why)) at (now (out .entry)) r (now (out .exit)) ⌝ }
+    ensures { λ r. ⌜ r ≤ at + 84 ⌝ }
+{
+    let number = why.number() as u64;
+    let place = why.place() as u64;
+    let to = put_head(out, at, index, 0, number, place);
+    put_byte(out, to, b'\n')
+}
+
+// The line of a frame of this kind.
+fn put_kind(out: &mut [u8], at: usize, index: u64, kind: u64, args: &[u64]) -> usize
+    requires { ⌜ (at + 273 ≤ length (now out)) × (length (now args) ≤ 9) ⌝ }
+    ensures { λ r. ⌜ Puts (lineOf index (reading kind (now (args .entry)))) at (now (out .entry)) r (now (out .exit)) ⌝ }
+    ensures { λ r. ⌜ r ≤ at + 273 ⌝ }
+{
+    let to = put_head(out, at, index, kind, 0, 0);
+    let end = put_arguments(out, to, args);
+    put_byte(out, end, b'\n')
+}
+
+// The line of a frame.
+fn put_line(out: &mut [u8], at: usize, index: u64, frame: &[u8]) -> usize
+    requires { ⌜ at + 273 ≤ length (now out) ⌝ }
+    ensures { λ r. ⌜ Puts (lineOf index (decode (now (frame .entry)))) at (now (out .entry)) r (now (out .exit)) ⌝ }
+    ensures { λ r. ⌜ r ≤ at + 273 ⌝ }
+{
+    let d = codec::decode(frame);
+    let answer = d.answer;
+    match answer {
+        Answer::Kind(kind) => {
+            let args = d.args;
+            let n = d.count;
+            put_kind(out, at, index, kind, &args[0..n])
+        }
+        Answer::Refused(why) => put_refusal(out, at, index, why),
+    }
+}
+
+// ---- passes
+
+// Whether there is room for a line, however long, and an index behind this one.
+fn goes_on(room: usize, index: u64) -> bool
+    ensures { λ r. ⌜ r ≡ goesOn room index ⌝ }
+{
+    if room < LONGEST {
+        false
+    } else {
+        index < u64::MAX
+    }
+}
+
+// Puts the lines of the frames that `input` begins with at the start of `out`, from an index on. A frame that the input ends in is left for the
+// next pass if more input is to come, and else prints as cut. Where `out` has no room for a line, nothing more is used.
+pub fn pass(index: u64, input: &[u8], more: bool, out: &mut [u8]) -> Passed
+    ensures { λ r. ⌜ Passes (linesOf more (length (now (out .entry))) index (unreel (now (input .entry)))) (now (out .entry)) r (now (out .exit)) ⌝ }
+    ensures { λ r. ⌜ (r .used ≤ length (now (input .entry))) × (r .written ≤ length (now (out .entry))) ⌝ }
+{
+    let mut used: usize = 0;
+    let mut written: usize = 0;
+    let mut next = index;
+    while goes_on(out.len() - written, next) {
+        let step = Cursor { at: used }.step(input);
+        match step {
+            Step::Frame {
+                start,
+                end,
+                next: _,
+            } => {
+                written = put_line(out, written, next, &input[start..end]);
+                used = end;
+                next += 1;
+            }
+            Step::End => break,
+            Step::Refused(why) => {
+                if more {
+                    break;
+                }
+                let end = put_refusal(out, written, next, why);
+                return Passed {
+                    used: input.len(),
+                    written: end,
+                    next: next + 1,
+                };
+            }
+        }
+    }
+    Passed {
+        used,
+        written,
+        next,
+    }
+}

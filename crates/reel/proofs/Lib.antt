@@ -1,0 +1,5 @@
+pub mod Steps
+pub mod Reels
+pub mod Walks
+pub mod Found
+pub mod Outcome
