@@ -2,6 +2,7 @@ pub mod Listed
 pub mod Steps
 pub mod Masks
 pub mod Returns
+pub mod Seeking
 pub mod Fitting
 pub mod Accepted
 pub mod Narrowing

@@ -27,11 +27,11 @@ abbrev pub bitIn : ℕ → ℕ → Bool
 bitIn l v = eqb (getD (getD words l []) (v / 64) 0 / 2 ^ (v % 64) % 2) 1
 
 -- a test of every number below n
-below : (ℕ → Bool) → ℕ → Bool
+unfoldable pub below : (ℕ → Bool) → ℕ → Bool
 below p zero = true
 below p (suc n) = p n && below p n
 
-at : (p : ℕ → Bool) (n k : ℕ) → T (below p n) → k < n → T (p k)
+pub at : (p : ℕ → Bool) (n k : ℕ) → T (below p n) → k < n → T (p k)
 unfolding below
 at p zero k t h = absurd (not-suc-le-zero h)
 at p (suc n) k t h =

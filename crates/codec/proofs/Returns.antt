@@ -1,5 +1,6 @@
 -- What the returns of the decoder and of the checked builder ask: each branch gives the specification's answer. Assumes nothing.
 use mathlib.Core.Path.{_≡_, refl, sym, ap, ap₂, _∙_, subst}
+use mathlib.Core.Logic.{⊎-elim}
 use mathlib.Core.Bool.{Bool, true, false, cond, _&&_}
 use mathlib.Core.List.{List, [], _∷_, _++_}
 use Prim.Native.Nat.{ℕ, zero, suc, _+_, _-_, _^_, _≤_, _<_}
@@ -10,12 +11,13 @@ use borrow.Author.Tests.{lt-ltb, le-ltb, le-leb, lt-leb}
 use lib.Dec.{T, eqb, eqb→eq}
 use lib.ListN.{length, getD, take, replicate}
 use lib.Seq.{take-at}
-use Rattle.frame.specs.Layout.{bytes, tab, byteOf, puts, get, maskOf, soundAll, disjoint}
+use Rattle.frame.specs.Layout.{bytes, tab, byteOf, puts, maskOf, soundAll, disjoint}
+use Rattle.frame.proofs.OneField.{le-or-lt}
 use Rattle.frame.proofs.Fields.{both-left, length-tab}
-use Rattle.table.specs.Number.{narrowOf, narrowsOf}
-use Rattle.table.specs.Table.{rows, opOf, lenOf, countOf, numbersOf, rowOf, opNumber}
+use Rattle.table.specs.Number.{narrowsOf}
+use Rattle.table.specs.Table.{rows, rowAt, opOf, lenOf, countOf, numbersOf, rowOf, opNumber}
 use Rattle.table.specs.Laid.{find}
-use Rattle.table.proofs.Rows.{count, row-laid}
+use Rattle.table.proofs.Rows.{count, row-laid, row-at}
 use Rattle.refusal.specs.declared.Refusal.the-variants.{ShortFrame, UnknownOpcode, WrongLength, StrayBit, UnknownCode, ArgumentOutside, NotAKind}
 use Rattle.codec.specs.Narrowed.{fieldsOf, frameOf, opcode, argumentsIn, Ready}
 use Rattle.codec.specs.declared.Answer.the-variants.{Kind}
@@ -23,10 +25,10 @@ use Rattle.codec.specs.declared.Decoded.{Decoded}
 use Rattle.codec.specs.declared.Verdict.the-variants.{Frame}
 use Rattle.codec.specs.declared.Built.{Built}
 use Rattle.codec.specs.Decoding as decoder
-use Rattle.codec.specs.Decoding.{reading, stray, strayAt, lacking, lackingAt, judged, known, decode, decoded}
+use Rattle.codec.specs.Decoding.{reading, stray, strayAt, lacking, lackingAt, judged, known, sought, decode, decoded}
 use Rattle.codec.specs.Building as builder
 use Rattle.codec.specs.Building.{allows, outside, unless, checked, built}
-use Rattle.codec.proofs.Steps.{long-numbers, length-reads, opcode-read}
+use Rattle.codec.proofs.Steps.{long-numbers, length-reads}
 use Rattle.codec.proofs.Masks.{masks-are, take-ones, stray-padded, padded-frame}
 
 -- ---- the rows
@@ -80,7 +82,7 @@ module _ (r : List ℕ) (whole : length r ≡ 13) (rd : Ready r) where
           ap₂ (λ (m : ℕ) (v : List ℕ). record { answer = Kind k; count = m; args = v }) (en ∙ sym many) (ea ∙ ap (λ (m : ℕ). argumentsIn r f ++ replicate (9 - m) 0) (sym many))
           ∙ ap decoded (sym (judged-kind k h))
 
--- ---- decode_by
+-- ---- decode
 
 -- a row that is found has the opcode and the length
 pub found-row : (rs : List (List ℕ)) (o l : ℕ) → find rs o l < length rs → (opOf (getD rs (find rs o l) []) ≡ o) × (lenOf (getD rs (find rs o l) []) ≡ l)
@@ -101,39 +103,65 @@ pub decode-short : (f : List ℕ) → length f < 2 → decode f ≡ decoder.refu
 unfolding decode
 decode-short f h = simp (lt-ltb (length f) 2 h)
 
-module _ (t : List (List ℕ)) (f : List ℕ) (o i : ℕ) (et : t ≡ rows) (eo : o ≡ get f (narrowOf opNumber)) (ei : i ≡ find t o (length f)) where
-  op : o ≡ opcode f
-  op = eo ∙ opcode-read f
+module _ (f : List ℕ) (o i : ℕ) (eo : o ≡ opcode f) (ei : i ≡ sought o (length f)) where
+  abbrev placed : ℕ
+  placed = find rows (opcode f) (length f)
 
-  place : find rows (opcode f) (length f) ≡ i
-  place = sym (ei ∙ ap₂ (λ (x : List (List ℕ)) (y : ℕ). find x y (length f)) et op)
+  here : sought (opcode f) (length f) ≡ i
+  here = sym (ei ∙ ap (λ (x : ℕ). sought x (length f)) eo)
 
-  pub row-ready : i < 39 → Ready (getD t i [])
-  row-ready h = subst (λ (x : List (List ℕ)). Ready (getD x i [])) (sym et) (ready i h)
+  found : placed < 39 → placed ≡ i
+  unfolding sought
+  found h = sym (simp (lt-ltb placed 39 h)) ∙ here
 
-  pub row-length : i < 39 → lenOf (getD t i []) ≡ length f
-  row-length h =
-      let l : find rows (opcode f) (length f) < length rows = omega (arith, place, count) in
-      ap (λ (x : List (List ℕ)). lenOf (getD x i [])) et ∙ ap (λ (k : ℕ). lenOf (getD rows k [])) (sym place) ∙ found-row rows (opcode f) (length f) l .1
+  missed : 39 ≤ placed → cond (known rows (opcode f)) 39 40 ≡ i
+  unfolding sought
+  missed h = sym (simp (le-ltb placed 39 h)) ∙ here
+
+  place : i < 39 → placed ≡ i
+  place h = ⊎-elim (λ l. absurd (past (known rows (opcode f)) (missed l))) found (le-or-lt 39 placed)
+    where
+      past : (b : Bool) → cond b 39 40 ≡ i → ⊥
+      past true e = omega arith
+      past false e = omega arith
+
+  none : 39 ≤ i → 39 ≤ placed
+  none h = ⊎-elim (λ l. l) (λ l. absurd (omega (arith, found l))) (le-or-lt 39 placed)
+
+  module _ (row : List ℕ) (er : row ≡ rowAt i) (h : i < 39) where
+    pub row-ready : Ready row
+    row-ready = subst (λ (r : List ℕ). Ready r) (sym (er ∙ row-at i h)) (ready i h)
+
+    pub row-length : lenOf row ≡ length f
+    row-length =
+        let l : placed < length rows = omega (arith, place h, count) in
+        ap (λ (r : List ℕ). lenOf r) (er ∙ row-at i h) ∙ ap (λ (k : ℕ). lenOf (getD rows k [])) (sym (place h)) ∙ found-row rows (opcode f) (length f) l .1
+
+    pub decode-row : 2 ≤ length f → judged (i + 1) row f ≡ decode f
+    unfolding decode
+    decode-row two =
+        ap₂ (λ (r : List ℕ) (k : ℕ). judged k r f) (er ∙ row-at i h) (add-one i) ∙ sym (simp (le-ltb (length f) 2 two, place h, lt-ltb i 39 h))
 
   module _ (two : 2 ≤ length f) where
-    pub decode-row : i < 39 → judged (i + 1) (getD t i []) f ≡ decode f
+    pub decode-known : i ≡ 39 → decoder.refuses WrongLength ≡ decode f
     unfolding decode
-    decode-row h =
-        ap₂ (λ (x : List (List ℕ)) (k : ℕ). judged k (getD x i []) f) et (add-one i)
-        ∙ sym (simp (le-ltb (length f) 2 two, place, lt-ltb i 39 h))
+    decode-known e =
+        let p : 39 ≤ placed = none (omega arith) in
+        sym (simp (le-ltb (length f) 2 two, le-ltb placed 39 p, is-so (known rows (opcode f)) (missed p)))
+      where
+        is-so : (b : Bool) → cond b 39 40 ≡ i → b ≡ true
+        is-so true q = refl
+        is-so false q = absurd (omega arith)
 
-    pub decode-known : 39 ≤ i → known t o ≡ true → decoder.refuses WrongLength ≡ decode f
+    pub decode-unknown : 39 ≤ i → (i ≡ 39 → ⊥) → decoder.refuses UnknownOpcode ≡ decode f
     unfolding decode
-    decode-known h k =
-        let e : known rows (opcode f) ≡ true = sym (ap₂ known et op) ∙ k in
-        sym (simp (le-ltb (length f) 2 two, place, le-ltb i 39 h, e))
-
-    pub decode-unknown : 39 ≤ i → known t o ≡ false → decoder.refuses UnknownOpcode ≡ decode f
-    unfolding decode
-    decode-unknown h k =
-        let e : known rows (opcode f) ≡ false = sym (ap₂ known et op) ∙ k in
-        sym (simp (le-ltb (length f) 2 two, place, le-ltb i 39 h, e))
+    decode-unknown h d =
+        let p : 39 ≤ placed = none h in
+        sym (simp (le-ltb (length f) 2 two, le-ltb placed 39 p, not-so (known rows (opcode f)) (missed p)))
+      where
+        not-so : (b : Bool) → cond b 39 40 ≡ i → b ≡ false
+        not-so true q = absurd (d (sym q))
+        not-so false q = refl
 
 -- ---- build
 

@@ -1,7 +1,7 @@
--- What the steps and loops of the code ask: one row, byte or field more of each search, and the arguments one by one. Assumes nothing.
+-- What the steps and loops of the code ask: one byte or field more of each search, and the arguments one by one. Assumes nothing.
 use mathlib.Core.Path.{_≡_, refl, sym, ap, ap₂, _∙_, subst}
 use mathlib.Core.Logic.{⊎-elim}
-use mathlib.Core.Bool.{Bool, true, false, cond, _&&_}
+use mathlib.Core.Bool.{Bool, true, false, cond}
 use mathlib.Core.List.{List, [], _∷_, _++_, append-assoc}
 use Prim.Native.Nat.{ℕ, zero, suc, _+_, _-_, _*_, _/_, _^_, _≤_, _<_, min}
 use native.Mathlib.Nat.{div-lt-iff-lt-mul, lt-of-lt-of-le, le-of-suc-le-suc, not-suc-le-zero, one-mul}
@@ -20,46 +20,10 @@ use Rattle.frame.proofs.OneField.{le-or-lt}
 use Rattle.frame.proofs.Fields.{both-left, both-right, sound-is, sound-holds, length-tab}
 use Rattle.table.specs.Number.{narrowOf, narrowsOf, codesOf}
 use Rattle.table.specs.Codes.{takes}
-use Rattle.table.specs.Table.{opOf, lenOf, countOf, numbersOf, opNumber}
-use Rattle.table.specs.Laid.{find}
-use Rattle.codec.specs.Narrowed.{opcode, Ready}
-use Rattle.codec.specs.Decoding.{stray, lower, lacking, known}
+use Rattle.table.specs.Table.{lenOf, countOf, numbersOf, opNumber}
+use Rattle.codec.specs.Narrowed.{Ready}
+use Rattle.codec.specs.Decoding.{stray, lower, lacking}
 use Rattle.codec.specs.Building.{allows, outside}
-
--- ---- one more row of the search
-
-module _ (rs : List (List ℕ)) (i o l : ℕ) (h : i < length rs) where
-  here : find (drop i rs) o l ≡ cond (eqb (opOf (getD rs i [])) o && eqb (lenOf (getD rs i [])) l) 0 (suc (find (drop (suc i) rs) o l))
-  unfolding find
-  here = ap (λ (x : List (List ℕ)). find x o l) (drop-cons rs i [] h)
-
-  pub find-hit : opOf (getD rs i []) ≡ o → lenOf (getD rs i []) ≡ l → find (drop i rs) o l ≡ 0
-  find-hit p q = here ∙ simp (eq-eqb _ _ p, eq-eqb _ _ q)
-
-  pub find-other-op : (opOf (getD rs i []) ≡ o → ⊥) → find (drop i rs) o l ≡ suc (find (drop (i + 1) rs) o l)
-  find-other-op p = here ∙ simp (ne-eqb _ _ p, add-one)
-
-  pub find-other-length : opOf (getD rs i []) ≡ o → (lenOf (getD rs i []) ≡ l → ⊥) → find (drop i rs) o l ≡ suc (find (drop (i + 1) rs) o l)
-  find-other-length p q = here ∙ simp (eq-eqb _ _ p, ne-eqb _ _ q, add-one)
-
-pub find-past : (rs : List (List ℕ)) (i o l : ℕ) → length rs ≤ i → find (drop i rs) o l ≡ 0
-unfolding find
-find-past rs i o l h = ap (λ (x : List (List ℕ)). find x o l) (drop-of-length-le rs h)
-
-module _ (rs : List (List ℕ)) (i o : ℕ) (h : i < length rs) where
-  known-here : known (drop i rs) o ≡ cond (eqb (opOf (getD rs i [])) o) true (known (drop (suc i) rs) o)
-  unfolding known
-  known-here = ap (λ (x : List (List ℕ)). known x o) (drop-cons rs i [] h)
-
-  pub known-hit : opOf (getD rs i []) ≡ o → known (drop i rs) o ≡ true
-  known-hit p = known-here ∙ simp (eq-eqb _ _ p)
-
-  pub known-more : (opOf (getD rs i []) ≡ o → ⊥) → known (drop i rs) o ≡ known (drop (i + 1) rs) o
-  known-more p = known-here ∙ simp (ne-eqb _ _ p, add-one)
-
-pub known-past : (rs : List (List ℕ)) (i o : ℕ) → length rs ≤ i → known (drop i rs) o ≡ false
-unfolding known
-known-past rs i o h = ap (λ (x : List (List ℕ)). known x o) (drop-of-length-le rs h)
 
 -- ---- one more byte under its mask
 
@@ -252,7 +216,3 @@ argument-read row s j e r h =
     get-read s (narrowOf (getD row (4 + j) 0))
     (subst (λ (c : ℕ). Sound 16 (narrowOf c)) g
     (widened (lenOf row) (narrowOf (getD (numbersOf row) j 0)) (omega (arith, r .most)) (sound-in (lenOf row) (numbersOf row) j t (omega (arith, r .few, long-numbers row e (r .few))))))
-
-pub opcode-read : (s : List ℕ) → get s (narrowOf opNumber) ≡ opcode s
-unfolding narrowOf
-opcode-read s = get-read s (narrowOf opNumber) (record { wide = omega arith; ends = omega arith; within = omega arith })

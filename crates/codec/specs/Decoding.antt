@@ -62,6 +62,10 @@ unfoldable pub known : List (List ℕ) → ℕ → Bool
 known [] op = false
 known (r ∷ rs) op = cond (eqb (opOf r) op) true (known rs op)
 
+-- the place of the row that has the opcode and the length; 39 where only the opcode is in the table, and 40 where it is not
+unfoldable pub sought : ℕ → ℕ → ℕ
+sought op len = cond (ltb (find rows op len) 39) (find rows op len) (cond (known rows op) 39 40)
+
 -- "frame under 2 bytes"; "A command is known by opcode and length together"; "length not one of that opcode's"; "opcode not in the table"
 unfoldable pub decode : List ℕ → Reading
 decode f =

@@ -7,11 +7,10 @@ ghost use lib.Dec.{ltb};
 ghost use lib.ListN.{length, getD, take, replicate};
 ghost use Rattle.frame.specs.Layout.{tab, puts, maskOf};
 ghost use Rattle.table.specs.Codes.{lists, isIn, takes};
-ghost use Rattle.table.specs.Table.{rows, lenOf, countOf, numbersOf};
-ghost use Rattle.table.specs.Laid.{find};
-ghost use Rattle.codec.specs.Narrowed.{fieldsOf, frameOf, argumentsIn, Ready};
+ghost use Rattle.table.specs.Table.{lenOf, countOf, numbersOf};
+ghost use Rattle.codec.specs.Narrowed.{fieldsOf, frameOf, opcode, argumentsIn, Ready};
 ghost use Rattle.codec.specs.Decoding as decoder;
-ghost use Rattle.codec.specs.Decoding.{stray, lower, lacking, judged, known, decode, decoded};
+ghost use Rattle.codec.specs.Decoding.{stray, lower, lacking, judged, sought, decode, decoded};
 ghost use Rattle.codec.specs.Building as builder;
 ghost use Rattle.codec.specs.Building.{allows, outside, unless, checked, built};
 use refusal::Refusal;
@@ -235,65 +234,92 @@ fn judge(kind: u64, row: [u32; 13], frame: &[u8]) -> Decoded
     }
 }
 
-// The place of the row with this opcode and length, or 39.
-fn place_of(t: &[[u32; 13]; 39], op: u64, len: u64) -> usize
-    requires { ⌜ length (now t) ≡ 39 ⌝ }
-    ensures { λ r. ⌜ r ≡ find (now (t .entry)) op len ⌝ }
+// Where an opcode's rows are, four second bytes to a line: 0x04_8_C is place 4, length 8, and length 12 at the next place; 0 is none.
+// Short, since a constant array is built on the stack wherever it is read.
+const SEATS: [[u16; 4]; 18] = [
+    [0x1760, 0x1834, 0x1A45, 0],
+    [0, 0, 0, 0],
+    [0, 0, 0, 0],
+    [0x1C50, 0x1D50, 0, 0x1E30],
+    [0x1F90, 0x20A0, 0, 0],
+    [0, 0x2180, 0x2230, 0],
+    [0x2356, 0, 0x2530, 0x26A0],
+    [0, 0x0D34, 0, 0],
+    [0x0040, 0x0160, 0x0240, 0x0330],
+    [0, 0, 0x048C, 0x0690],
+    [0x0720, 0x0820, 0x0920, 0x0AB0],
+    [0, 0x0B40, 0x0C80, 0],
+    [0, 0, 0, 0],
+    [0, 0, 0, 0],
+    [0, 0, 0, 0],
+    [0, 0, 0, 0],
+    [0x0FB0, 0x1090, 0x1140, 0x12A0],
+    [0x13B0, 0x1440, 0x1520, 0x1620],
+];
+
+fn byte(x: u8) -> u64
+    ensures { λ r. ⌜ (r ≡ x) × (r < 256) ⌝ }
 {
-    let mut i: usize = 0;
-    while i < 39 {
-        if long(t[i][0]) == op {
-            if long(t[i][1]) == len {
-                return i;
-            }
-        }
-        i += 1;
-    }
-    i
+    x as u64
 }
 
-// Whether any row has the opcode.
-fn is_known(t: &[[u32; 13]; 39], op: u64) -> bool
-    requires { ⌜ length (now t) ≡ 39 ⌝ }
-    ensures { λ r. ⌜ r ≡ known (now (t .entry)) op ⌝ }
+// The opcode, which is the first two bytes.
+fn opcode_of(frame: &[u8]) -> u64
+    requires { ⌜ 2 ≤ length (now frame) ⌝ }
+    ensures { λ r. ⌜ r ≡ opcode (now (frame .entry)) ⌝ }
 {
-    let mut i: usize = 0;
-    while i < 39 {
-        if long(t[i][0]) == op {
-            return true;
-        }
-        i += 1;
-    }
-    false
+    byte(frame[0]) * 256 + byte(frame[1])
 }
 
-fn decode_by(t: &[[u32; 13]; 39], frame: &[u8]) -> Decoded
-    requires { ⌜ now t ≡ rows ⌝ }
-    ensures { λ r. ⌜ r ≡ decoded (decode (now (frame .entry))) ⌝ }
+fn wide(x: u16) -> usize
+    ensures { λ r. ⌜ r ≡ x ⌝ }
 {
-    let n = frame.len();
-    if n < 2 {
-        return refused(Refusal::ShortFrame);
+    x as usize
+}
+
+// The place of the row with this opcode and length; 39 for a length that the opcode lacks, 40 for an opcode that no row has.
+fn seek(op: u64, len: usize) -> usize
+    requires { ⌜ 2 ≤ len ⌝ }
+    ensures { λ r. ⌜ r ≡ sought op len ⌝ }
+{
+    if op < 512 {
+        return 40;
     }
-    let op = frame::get(frame, table::narrow_field(table::OPCODE));
-    let i = place_of(t, op, n as u64);
-    if i < 39 {
-        let row = t[i];
-        return judge((i + 1) as u64, row, frame);
+    if 583 < op {
+        return 40;
     }
-    if is_known(t, op) {
-        refused(Refusal::WrongLength)
-    } else {
-        refused(Refusal::UnknownOpcode)
+    let at = (op - 512) as usize;
+    let seat = wide(SEATS[at / 4][at % 4]);
+    if seat == 0 {
+        return 40;
     }
+    if seat / 16 % 16 == len {
+        return seat / 256;
+    }
+    if seat % 16 == len {
+        return seat / 256 + 1;
+    }
+    39
 }
 
 // A frame's kind and arguments, or why it has none.
 pub fn decode(frame: &[u8]) -> Decoded
     ensures { λ r. ⌜ r ≡ decoded (decode (now (frame .entry))) ⌝ }
 {
-    let t = table::table();
-    decode_by(&t, frame)
+    let n = frame.len();
+    if n < 2 {
+        return refused(Refusal::ShortFrame);
+    }
+    let i = seek(opcode_of(frame), n);
+    if i < 39 {
+        let row = table::row_at(i);
+        return judge((i + 1) as u64, row, frame);
+    }
+    if i == 39 {
+        refused(Refusal::WrongLength)
+    } else {
+        refused(Refusal::UnknownOpcode)
+    }
 }
 
 // ---- the checked builder
@@ -344,15 +370,6 @@ fn build(row: [u32; 13], args: &[u64]) -> Built
     }
 }
 
-// The row at a place of the table.
-fn row_at(i: usize) -> [u32; 13]
-    requires { ⌜ i < 39 ⌝ }
-    ensures { λ r. ⌜ r ≡ getD rows i [] ⌝ }
-{
-    let t = table::table();
-    t[i]
-}
-
 // The frame of a kind for its arguments, or why there is none.
 pub fn checked(kind: u64, args: &[u64]) -> Built
     ensures { λ r. ⌜ r ≡ built (checked kind (now (args .entry))) ⌝ }
@@ -363,6 +380,6 @@ pub fn checked(kind: u64, args: &[u64]) -> Built
     if 39 < kind {
         return declined(Refusal::NotAKind);
     }
-    let row = row_at((kind - 1) as usize);
+    let row = table::row_at((kind - 1) as usize);
     build(row, args)
 }

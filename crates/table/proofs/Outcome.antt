@@ -5,6 +5,9 @@ use Rattle.table.proofs as table
 table-once : Once table.table.ended table.table.Reads.Pre table.table.Reads.Learnt
 table-once κs a h o u p q i = (same p q i, o .1)
 
+row-at-once : Once table.row_at.ended table.row_at.Reads.Pre table.row_at.Reads.Learnt
+row-at-once κs a h o u p q i = (same p q i, o .1)
+
 narrow-field-once : Once table.narrow_field.ended table.narrow_field.Reads.Pre table.narrow_field.Reads.Learnt
 narrow-field-once κs a h o u p q i = (same p q i, o .1)
 

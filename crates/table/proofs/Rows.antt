@@ -3,7 +3,7 @@
 use mathlib.Core.Path.{_≡_, refl, sym, ap, _∙_}
 use mathlib.Core.Bool.{Bool, true, false, _&&_}
 use mathlib.Core.List.{List, [], _∷_}
-use Prim.Native.Nat.{ℕ, zero, suc, _+_, _≤_, _<_}
+use Prim.Native.Nat.{ℕ, zero, suc, _+_, _≤_, _<_, min}
 use native.Mathlib.Nat.{le-of-suc-le-suc, not-suc-le-zero, zero-add, suc-add, add-suc, add-zero}
 use native.Mathlib.Omega.{arith}
 use lib.Dec.{T, leb, eqb, leb→le, eqb→eq}
@@ -13,7 +13,7 @@ use Rattle.frame.specs.Layout.{soundAll, layout, apart, apartAll, disjoint, tab
 use Rattle.frame.proofs.Fields.{both-left, both-right}
 use Rattle.frame.proofs.Puts.{puts-zero}
 use Rattle.table.specs.Number.{narrowOf, plainOf, narrowsOf, plainsOf}
-use Rattle.table.specs.Table.{rows, opOf, lenOf, countOf, numbersOf, opNumber, plainRow}
+use Rattle.table.specs.Table.{rows, rowAt, opOf, lenOf, countOf, numbersOf, opNumber, plainRow}
 use Rattle.table.specs.Laid.{laid, allLaid, slotsFrom, find, allFound}
 
 -- ---- the test
@@ -73,6 +73,11 @@ slots-in-order = both-right (allLaid rows) (slotsFrom 0 rows) (both-left (allLai
 
 pub row-laid : (k : ℕ) → k < 39 → Laid (getD rows k [])
 row-laid k h = laid-at rows laid-part k h
+
+-- a place of the table has its row
+pub row-at : (k : ℕ) → k < 39 → rowAt k ≡ getD rows k []
+unfolding rowAt
+row-at k h = let e : min k 38 ≡ k = omega arith in ap (λ (i : ℕ). getD rows i []) e
 
 -- the search finds the row itself
 pub row-found : (k : ℕ) → k < 39 → find rows (opOf (getD rows k [])) (lenOf (getD rows k [])) ≡ k

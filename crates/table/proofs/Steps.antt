@@ -1,9 +1,20 @@
--- One field more, and what it was given: how the calls of a builder with many fields join to its frame. Assumes nothing.
+-- One field more, and what it was given: how the calls of a builder with many fields join to its frame. And what the last arm of a match
+-- over 0, 1, 2 and on knows. Assumes nothing.
 use mathlib.Core.Path.{_≡_, ap₂}
 use mathlib.Core.List.{List}
-use Prim.Native.Nat.{ℕ}
+use Prim.Native.Nat.{ℕ, zero, suc, _≤_}
+use native.Mathlib.Omega.{arith}
 use Rattle.frame.specs.declared.Field.{Field}
 use Rattle.frame.specs.Layout.{put}
 
 pub then : (f : Field) {a b : List ℕ} {v w : ℕ} → a ≡ b → v ≡ w → put a f v ≡ put b f w
 then f p q = ap₂ (λ (l : List ℕ) (n : ℕ). put l f n) p q
+
+-- i is none of the numbers below n, as such an arm has it
+abbrev pub Past : ℕ → ℕ → Type 0
+Past zero i = Unit
+Past (suc n) i = Past n i × (i ≡ n → ⊥)
+
+pub past : (n i : ℕ) → Past n i → n ≤ i
+past zero i p = omega arith
+past (suc n) i p = let l : n ≤ i = past n i (p .0) in let d : i ≡ n → ⊥ = p .1 in omega arith

@@ -1,7 +1,7 @@
 -- The command table as document 01 writes it, and the frame that a plain builder gives. Each row has document 01's line over it.
 -- Document 01: "Kind, opcode/length, fields in the Rust's argument order. [..] The table of 39 rows is one constant."
 -- Assumes nothing.
-use Prim.Native.Nat.{ℕ, _-_}
+use Prim.Native.Nat.{ℕ, _-_, min}
 use mathlib.Core.Bool.{Bool, true, false}
 use mathlib.Core.List.{List, [], _∷_, _++_}
 use lib.ListN.{getD, take, drop, replicate, length}
@@ -122,6 +122,10 @@ numbersOf r = take (countOf r) (drop 4 r)
 -- the row of a kind
 abbrev pub rowOf : ℕ → List ℕ
 rowOf k = getD rows (k - 1) []
+
+-- the row at a place, and the last one past the end
+unfoldable pub rowAt : ℕ → List ℕ
+rowAt i = getD rows (min i 38) []
 
 -- "Byte 0 and 1 are the opcode."
 abbrev pub opNumber : ℕ
