@@ -1,10 +1,12 @@
 pub mod Listed
 pub mod Steps
 pub mod Masks
+pub mod Words
 pub mod Returns
 pub mod Seeking
 pub mod Fitting
 pub mod Accepted
+pub mod Clean
 pub mod Narrowing
 pub mod Laws
 pub mod Handed

@@ -39,6 +39,10 @@ ready i h =
     let r : List ℕ = getD rows i [] in
     record { few = z .few; most = z .most; inside = both-left (soundAll (lenOf r) (fieldsOf r)) (disjoint (lenOf r) (fieldsOf r)) (z .apart-narrowed) }
 
+-- the row that the code has is one
+pub row-ready : (i : ℕ) (r : List ℕ) → r ≡ rowAt i → i < 39 → Ready r
+row-ready i r e h = subst (λ (x : List ℕ). Ready x) (sym (e ∙ row-at i h)) (ready i h)
+
 pub length-narrows : (cs : List ℕ) → length (narrowsOf cs) ≡ length cs
 unfolding narrowsOf
 length-narrows [] = refl
@@ -128,19 +132,16 @@ module _ (f : List ℕ) (o i : ℕ) (eo : o ≡ opcode f) (ei : i ≡ sought o (
   none : 39 ≤ i → 39 ≤ placed
   none h = ⊎-elim (λ l. l) (λ l. absurd (omega (arith, found l))) (le-or-lt 39 placed)
 
-  module _ (row : List ℕ) (er : row ≡ rowAt i) (h : i < 39) where
-    pub row-ready : Ready row
-    row-ready = subst (λ (r : List ℕ). Ready r) (sym (er ∙ row-at i h)) (ready i h)
-
-    pub row-length : lenOf row ≡ length f
+  module _ (h : i < 39) where
+    pub row-length : lenOf (rowAt i) ≡ length f
     row-length =
         let l : placed < length rows = omega (arith, place h, count) in
-        ap (λ (r : List ℕ). lenOf r) (er ∙ row-at i h) ∙ ap (λ (k : ℕ). lenOf (getD rows k [])) (sym (place h)) ∙ found-row rows (opcode f) (length f) l .1
+        ap (λ (r : List ℕ). lenOf r) (row-at i h) ∙ ap (λ (k : ℕ). lenOf (getD rows k [])) (sym (place h)) ∙ found-row rows (opcode f) (length f) l .1
 
-    pub decode-row : 2 ≤ length f → judged (i + 1) row f ≡ decode f
+    pub decode-row : 2 ≤ length f → judged (i + 1) (rowAt i) f ≡ decode f
     unfolding decode
     decode-row two =
-        ap₂ (λ (r : List ℕ) (k : ℕ). judged k r f) (er ∙ row-at i h) (add-one i) ∙ sym (simp (le-ltb (length f) 2 two, place h, lt-ltb i 39 h))
+        ap₂ (λ (r : List ℕ) (k : ℕ). judged k r f) (row-at i h) (add-one i) ∙ sym (simp (le-ltb (length f) 2 two, place h, lt-ltb i 39 h))
 
   module _ (two : 2 ≤ length f) where
     pub decode-known : i ≡ 39 → decoder.refuses WrongLength ≡ decode f

@@ -1,7 +1,7 @@
 -- What the steps and loops of the code ask: one byte or field more of each search, and the arguments one by one. Assumes nothing.
 use mathlib.Core.Path.{_≡_, refl, sym, ap, ap₂, _∙_, subst}
 use mathlib.Core.Logic.{⊎-elim}
-use mathlib.Core.Bool.{Bool, true, false, cond}
+use mathlib.Core.Bool.{Bool, true, false, cond, _&&_}
 use mathlib.Core.List.{List, [], _∷_, _++_, append-assoc}
 use Prim.Native.Nat.{ℕ, zero, suc, _+_, _-_, _*_, _/_, _^_, _≤_, _<_, min}
 use native.Mathlib.Nat.{div-lt-iff-lt-mul, lt-of-lt-of-le, le-of-suc-le-suc, not-suc-le-zero, one-mul}
@@ -22,6 +22,7 @@ use Rattle.table.specs.Number.{narrowOf, narrowsOf, codesOf}
 use Rattle.table.specs.Codes.{takes}
 use Rattle.table.specs.Table.{lenOf, countOf, numbersOf, opNumber}
 use Rattle.codec.specs.Narrowed.{Ready}
+use Rattle.codec.specs.Words.{allTaken}
 use Rattle.codec.specs.Decoding.{stray, lower, lacking}
 use Rattle.codec.specs.Building.{allows, outside}
 
@@ -200,19 +201,54 @@ sound-in n [] j t h = absurd (not-suc-le-zero h)
 sound-in n (c ∷ cs) zero t h = sound-is n (narrowOf c) (both-left (sound n (narrowOf c)) (soundAll n (narrowsOf cs)) t)
 sound-in n (c ∷ cs) (suc j) t h = sound-in n cs j (both-right (sound n (narrowOf c)) (soundAll n (narrowsOf cs)) t) (le-of-suc-le-suc h)
 
-widened : (n : ℕ) (f : Field) → n ≤ 16 → Sound n f → Sound 16 f
+pub widened : (n : ℕ) (f : Field) → n ≤ 16 → Sound n f → Sound 16 f
 widened n f h s = record { wide = s .wide; ends = omega (arith, s .ends); within = s .within }
 
-get-read : (s : List ℕ) (f : Field) → Sound 16 f → get s f ≡ read f (bytes s)
+-- what the code gets is what the field reads
+pub get-read : (s : List ℕ) (f : Field) → Sound 16 f → get s f ≡ read f (bytes s)
 unfolding get
 get-read s f h = simp (sound-holds 16 f h)
 
--- what the code gets is what the field reads
-pub argument-read : (row s : List ℕ) (j : ℕ) → length row ≡ 13 → Ready row → j < countOf row → get s (narrowOf (getD row (4 + j) 0)) ≡ read (narrowOf (getD row (4 + j) 0)) (bytes s)
+pub argument-sound : (row : List ℕ) (j : ℕ) → length row ≡ 13 → Ready row → j < countOf row → Sound (lenOf row) (narrowOf (getD row (4 + j) 0))
 unfolding narrowsOf soundAll
-argument-read row s j e r h =
+argument-sound row j e r h =
     let t : T (soundAll (lenOf row) (narrowsOf (numbersOf row))) = both-right (sound (lenOf row) (narrowOf opNumber)) (soundAll (lenOf row) (narrowsOf (numbersOf row))) (r .inside) in
     let g : getD (numbersOf row) j 0 ≡ getD row (4 + j) 0 = getD-take (countOf row) (drop 4 row) j 0 h ∙ getD-drop 4 row j 0 in
-    get-read s (narrowOf (getD row (4 + j) 0))
-    (subst (λ (c : ℕ). Sound 16 (narrowOf c)) g
-    (widened (lenOf row) (narrowOf (getD (numbersOf row) j 0)) (omega (arith, r .most)) (sound-in (lenOf row) (numbersOf row) j t (omega (arith, r .few, long-numbers row e (r .few))))))
+    subst (λ (c : ℕ). Sound (lenOf row) (narrowOf c)) g
+    (sound-in (lenOf row) (numbersOf row) j t (omega (arith, r .few, long-numbers row e (r .few))))
+
+-- ---- codes that are taken
+
+and-assoc : (a b c : Bool) → ((a && b) && c) ≡ (a && (b && c))
+and-assoc true b c = refl
+and-assoc false b c = refl
+
+and-true : (a : Bool) → (a && true) ≡ a
+and-true true = refl
+and-true false = refl
+
+module _ (row : List ℕ) (whole : length row ≡ 13) (few : countOf row ≤ 9) (b : ℕ → ℕ) (all : Bool) (t : Bool) (j : ℕ) (so-far : (t && allTaken (drop j (numbersOf row)) b) ≡ all) where
+  pub taken-more : (u : Bool) → j < countOf row → u ≡ (t && takes (codesOf (getD row (4 + j) 0)) (read (narrowOf (getD row (4 + j) 0)) b)) → (u && allTaken (drop (j + 1) (numbersOf row)) b) ≡ all
+  unfolding allTaken
+  taken-more u h e =
+      let c : ℕ = getD row (4 + j) 0 in
+      ap₂ (λ (x : Bool) (k : ℕ). x && allTaken (drop k (numbersOf row)) b) e (add-one j)
+      ∙ and-assoc t (takes (codesOf c) (read (narrowOf c) b)) (allTaken (drop (suc j) (numbersOf row)) b)
+      ∙ ap (λ (l : List ℕ). t && allTaken l b) (sym (numbers-more row whole few j h)) ∙ so-far
+
+  pub taken-end : countOf row ≤ j → t ≡ all
+  unfolding allTaken
+  taken-end h = sym (and-true t) ∙ ap (λ (l : List ℕ). t && allTaken l b) (sym (numbers-past row whole few j h)) ∙ so-far
+
+-- where each field holds a code that it takes, none lacks its code
+pub taken-none : (n : ℕ) (cs : List ℕ) (b : ℕ → ℕ) → T (allTaken cs b) → lacking n cs (reads (narrowsOf cs) b) ≡ n
+unfolding allTaken lacking reads narrowsOf
+taken-none n [] b t = refl
+taken-none n (c ∷ cs) b t =
+    let v : ℕ = read (narrowOf c) b in
+    ap (λ (x : Bool). cond x (lacking n cs (reads (narrowsOf cs) b)) (min (narrowOf c .first) (lacking n cs (reads (narrowsOf cs) b)))) (is-true (takes (codesOf c) v) (both-left (takes (codesOf c) v) (allTaken cs b) t))
+    ∙ taken-none n cs b (both-right (takes (codesOf c) v) (allTaken cs b) t)
+  where
+    is-true : (x : Bool) → T x → x ≡ true
+    is-true true u = refl
+    is-true false u = absurd u

@@ -1,3 +1,4 @@
 pub mod Narrowed
+pub mod Words
 pub mod Decoding
 pub mod Building

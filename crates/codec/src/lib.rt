@@ -1,18 +1,22 @@
 // The decoder and the checked builder: a frame's kind and arguments, and the frame of a kind for its arguments, by the one table.
 // The laws that tie them to each other and to the plain builders are in proofs/Laws.antt.
 ghost use mathlib.Core.Path.{_≡_};
+ghost use mathlib.Core.Bool.{_&&_};
 ghost use mathlib.Core.List.{[], _∷_, _++_};
-ghost use Prim.Native.Nat.{_-_, _^_, _≤_, _<_};
+ghost use Prim.Native.Nat.{_+_, _-_, _/_, _%_, _^_, _≤_, _<_};
 ghost use lib.Dec.{ltb};
 ghost use lib.ListN.{length, getD, take, replicate};
-ghost use Rattle.frame.specs.Layout.{tab, puts, maskOf};
+ghost use Rattle.frame.specs.Field.{read, Sound};
+ghost use Rattle.frame.specs.Layout.{bytes, tab, puts, maskOf};
 ghost use Rattle.table.specs.Codes.{lists, isIn, takes};
-ghost use Rattle.table.specs.Table.{lenOf, countOf, numbersOf};
+ghost use Rattle.table.specs.Table.{rowAt, lenOf, countOf, numbersOf};
 ghost use Rattle.codec.specs.Narrowed.{fieldsOf, frameOf, opcode, argumentsIn, Ready};
+ghost use Rattle.codec.specs.Words.{bigEnd, from, firstWord, lastWord, heldOf, InWords, allTaken};
 ghost use Rattle.codec.specs.Decoding as decoder;
 ghost use Rattle.codec.specs.Decoding.{stray, lower, lacking, judged, sought, decode, decoded};
 ghost use Rattle.codec.specs.Building as builder;
 ghost use Rattle.codec.specs.Building.{allows, outside, unless, checked, built};
+use frame::Field;
 use refusal::Refusal;
 
 pub enum Answer {
@@ -115,6 +119,109 @@ fn is_allowed(number: u32, v: u64) -> bool
     }
 }
 
+// ---- a frame in words
+
+fn byte(x: u8) -> u64
+    ensures { λ r. ⌜ (r ≡ x) × (r < 256) ⌝ }
+{
+    x as u64
+}
+
+// The number of four bytes, high byte first.
+fn four(s: &[u8], at: usize) -> u64
+    requires { ⌜ at + 4 ≤ length (now s) ⌝ }
+    ensures { λ r. ⌜ (r ≡ bigEnd (from at (bytes (now (s .entry)))) 4) × (r < 4294967296) ⌝ }
+{
+    ((byte(s[at]) * 256 + byte(s[at + 1])) * 256 + byte(s[at + 2])) * 256 + byte(s[at + 3])
+}
+
+fn eight(s: &[u8], at: usize) -> u64
+    requires { ⌜ at + 8 ≤ length (now s) ⌝ }
+    ensures { λ r. ⌜ r ≡ bigEnd (from at (bytes (now (s .entry)))) 8 ⌝ }
+{
+    four(s, at) * 0x1_0000_0000 + four(s, at + 4)
+}
+
+// The number of all bytes, of which there are at most eight.
+fn all_bytes(s: &[u8]) -> u64
+    requires { ⌜ length (now s) ≤ 8 ⌝ }
+    ensures { λ r. ⌜ r ≡ bigEnd (bytes (now (s .entry))) (length (now (s .entry))) ⌝ }
+{
+    let mut sum: u64 = 0;
+    let mut i: usize = 0;
+    while i < s.len() {
+        sum = sum * 256 + byte(s[i]);
+        i += 1;
+    }
+    sum
+}
+
+// The first eight bytes of a frame that has more.
+fn first_of(frame: &[u8]) -> u64
+    ensures { λ r. ⌜ r ≡ firstWord (length (now (frame .entry))) (bytes (now (frame .entry))) ⌝ }
+{
+    if 8 < frame.len() { eight(frame, 0) } else { 0 }
+}
+
+// The last eight bytes, or all.
+fn last_of(frame: &[u8]) -> u64
+    ensures { λ r. ⌜ r ≡ lastWord (length (now (frame .entry))) (bytes (now (frame .entry))) ⌝ }
+{
+    let n = frame.len();
+    if 8 <= n {
+        eight(frame, n - 8)
+    } else {
+        all_bytes(frame)
+    }
+}
+
+// The bits that the fields of the row at a place hold, in the same two words.
+fn held_at(i: usize) -> [u64; 2]
+    ensures { λ r. ⌜ r ≡ heldOf (rowAt i) ⌝ }
+{
+    match i {
+        0 => [0, 0xFFFF_FFFF],
+        1 => [0, 0xFFFF_FFFF_FF07],
+        2 => [0, 0xFFFF_FF01],
+        3 => [0, 0x00FF_FFFF],
+        4 => [0, 0xFFFF_87FF_FFFF_FFFF],
+        5 => [0xFFFF_87FF_FFFF_FFFF, 0xFFFF_FFFF_7FFF_FFFF],
+        6 => [0xFFFF_FF1F_FFFF_FFFF, 0xFFFF_1FFF_FFFF_FFFF],
+        7 => [0, 0xFFFF],
+        8 => [0, 0xFFFF],
+        9 => [0, 0xFFFF],
+        10 => [0xFFFF_FFFF_FFFF_FFFF, 0xFFFF_FFFF_FFFF_FFFF],
+        11 => [0, 0xFFFF_1F1F],
+        12 => [0, 0xFFFF_1F1F_1F1F_1F1F],
+        13 => [0, 0x00FF_FFCF],
+        14 => [0, 0xFFFF_FF1F],
+        15 => [0xFFFF_FFFF_FFFF_0FFF, 0xFFFF_FF0F_FFFF_FFFF],
+        16 => [0xFFFF_FFFF_FF1F_FFFF, 0xFFFF_FFFF_1FFF_FFF1],
+        17 => [0, 0xFFFF_1FFF],
+        18 => [0xFFFF_FFFF_FFFF_FFFF, 0xFFFF_FFFF_FFFF_FFFF],
+        19 => [0xFFFF_FFFF_FFFF_FFFF, 0xFFFF_FFFF_FFFF_FFFF],
+        20 => [0, 0xFFFF_FFFF],
+        21 => [0, 0xFFFF],
+        22 => [0, 0xFFFF],
+        23 => [0, 0xFFFF_FFFF_FFFF],
+        24 => [0, 0x00FF_FF01],
+        25 => [0, 0xFFFF_0107],
+        26 => [0, 0xFFFF_F30F],
+        27 => [0, 0x00FF_FFF3_0F1F],
+        28 => [0, 0x00FF_FFFF_FFFF],
+        29 => [0, 0x00FF_FFFF_FFFF],
+        30 => [0, 0x00FF_FF01],
+        31 => [0xFFFF_FFFF_FFFF_FFFF, 0xFFFF_FFFF_FFFF_FF17],
+        32 => [0xFFFF_83FF_FFFF_FFFF, 0x83FF_FFFF_FFFF_FFFF],
+        33 => [0, 0xFFFF_FFFF_FFFF_FFFF],
+        34 => [0, 0x00FF_FF3F],
+        35 => [0, 0x00FF_FFFF_FFFF],
+        36 => [0, 0xFFFF_FFFF_FFFF],
+        37 => [0, 0x00FF_FF0F],
+        38.. => [0xFFFF_FFFF_FFFF_03FF, 0xFFFF_FFFF_03FF_FFFF],
+    }
+}
+
 // ---- a row's fields
 
 // The opcode and the arguments put into their fields; zeros follow.
@@ -143,19 +250,67 @@ fn masks_of(row: [u32; 13]) -> [u8; 12]
     packed(row, u64::MAX, &ones[0..n])
 }
 
-// The arguments that a frame holds; zeros follow.
-fn arguments_of(row: [u32; 13], frame: &[u8]) -> [u64; 9]
-    requires { ⌜ Ready row ⌝ }
-    ensures { λ r. ⌜ r ≡ argumentsIn row (now (frame .entry)) ++ replicate (9 - countOf row) 0 ⌝ }
+fn bits_of(word: u64, shift: usize, w: usize) -> u64
+    requires { ⌜ shift + w < 64 ⌝ }
+    ensures { λ r. ⌜ r ≡ word / 2 ^ shift % 2 ^ w ⌝ }
 {
-    let mut out = [0u64; 9];
+    (word >> shift) % (1u64 << w)
+}
+
+// The number that a field holds: some bits of a word, where it stands high byte first and within one; or else byte by byte.
+fn read_at(first: u64, last: u64, frame: &[u8], f: Field) -> u64
+    requires { ⌜ InWords first last (now frame) × Sound (length (now frame)) f × (length (now frame) ≤ 12) ⌝ }
+    ensures { λ r. ⌜ r ≡ read f (bytes (now (frame .entry))) ⌝ }
+{
+    if f.le {
+        return frame::get(frame, f);
+    }
+    let n = frame.len();
+    let end = f.first + (f.w + 7) / 8;
+    let shift = 8 * (n - end) + f.lo;
+    if shift + f.w < 64 {
+        return bits_of(last, shift, f.w);
+    }
+    if 8 < n {
+        if end <= 8 {
+            let up = 8 * (8 - end) + f.lo;
+            if up + f.w < 64 {
+                return bits_of(first, up, f.w);
+            }
+        }
+    }
+    frame::get(frame, f)
+}
+
+fn both(a: bool, b: bool) -> bool
+    ensures { λ r. ⌜ r ≡ (a && b) ⌝ }
+{
+    if a { b } else { false }
+}
+
+// The arguments that a frame holds, with zeros behind them, and whether each is a code that its field takes.
+struct Held {
+    taken: bool,
+    args: [u64; 9],
+}
+
+fn arguments_of(row: [u32; 13], first: u64, last: u64, frame: &[u8]) -> Held
+    requires { ⌜ Ready row × (lenOf row ≡ length (now frame)) × InWords first last (now frame) ⌝ }
+    ensures { λ r. ⌜ (r .taken ≡ allTaken (numbersOf row) (bytes (now (frame .entry)))) × (r .args ≡ argumentsIn row (now (frame .entry)) ++ replicate (9 - countOf row) 0) ⌝ }
+{
+    let mut args = [0u64; 9];
+    let mut taken = true;
     let n = size(row[3]);
     let mut j: usize = 0;
     while j < n {
-        out[j] = frame::get(frame, table::narrow_field(row[4 + j]));
+        let number = row[4 + j];
+        let v = read_at(first, last, frame, table::narrow_field(number));
+        args[j] = v;
+        let next = both(taken, is_taken(number % 4096, v));
+        taken = next;
         j += 1;
     }
-    out
+    Held { taken, args }
 }
 
 // ---- the decoder
@@ -212,23 +367,53 @@ fn refused(why: Refusal) -> Decoded
     }
 }
 
-// What a frame with the opcode and the length of the row says.
-fn judge(kind: u64, row: [u32; 13], frame: &[u8]) -> Decoded
-    requires { ⌜ Ready row × (lenOf row ≡ length (now frame)) ⌝ }
-    ensures { λ r. ⌜ r ≡ decoded (judged kind row (now (frame .entry))) ⌝ }
+// The lowest byte with a bit that no field of the row holds, or the frame's length. Only where a word has such a bit are bytes looked at.
+fn stray_at(held: [u64; 2], first: u64, last: u64, row: [u32; 13], frame: &[u8]) -> usize
+    requires { ⌜ Ready row × (lenOf row ≡ length (now frame)) × InWords first last (now frame) × (held ≡ heldOf row) ⌝ }
+    ensures { λ r. ⌜ r ≡ stray (tab 12 (maskOf (fieldsOf row))) (now (frame .entry)) ⌝ }
+{
+    if first & held[0] == first {
+        if last & held[1] == last {
+            return frame.len();
+        }
+    }
+    first_stray(masks_of(row), frame)
+}
+
+// The lowest byte, below n, of a field that holds a code it lacks, or n. The fields are looked at again only where there is one.
+fn lacking_at(taken: bool, row: [u32; 13], args: [u64; 9], frame: &[u8]) -> usize
+    requires { ⌜ Ready row × (taken ≡ allTaken (numbersOf row) (bytes (now frame))) × (args ≡ argumentsIn row (now frame) ++ replicate (9 - countOf row) 0) ⌝ }
+    ensures { λ r. ⌜ r ≡ lacking (length (now (frame .entry))) (numbersOf row) (take (countOf row) args) ⌝ }
 {
     let n = frame.len();
-    let p = first_stray(masks_of(row), frame);
+    if taken {
+        n
+    } else {
+        first_lacking(row, args, n)
+    }
+}
+
+// What a frame with the opcode and the length of the row at a place says.
+fn judge(i: usize, frame: &[u8]) -> Decoded
+    requires { ⌜ (i < 39) × (lenOf (rowAt i) ≡ length (now frame)) ⌝ }
+    ensures { λ r. ⌜ r ≡ decoded (judged (i + 1) (rowAt i) (now (frame .entry))) ⌝ }
+{
+    let n = frame.len();
+    let row = table::row_at(i);
+    let first = first_of(frame);
+    let last = last_of(frame);
+    let p = stray_at(held_at(i), first, last, row, frame);
     if p < n {
         return refused(Refusal::StrayBit(p));
     }
-    let args = arguments_of(row, frame);
-    let q = first_lacking(row, args, n);
+    let held = arguments_of(row, first, last, frame);
+    let args = held.args;
+    let q = lacking_at(held.taken, row, args, frame);
     if q < n {
         return refused(Refusal::UnknownCode(q));
     }
     Decoded {
-        answer: Answer::Kind(kind),
+        answer: Answer::Kind((i + 1) as u64),
         count: size(row[3]),
         args,
     }
@@ -256,12 +441,6 @@ const SEATS: [[u16; 4]; 18] = [
     [0x0FB0, 0x1090, 0x1140, 0x12A0],
     [0x13B0, 0x1440, 0x1520, 0x1620],
 ];
-
-fn byte(x: u8) -> u64
-    ensures { λ r. ⌜ (r ≡ x) × (r < 256) ⌝ }
-{
-    x as u64
-}
 
 // The opcode, which is the first two bytes.
 fn opcode_of(frame: &[u8]) -> u64
@@ -312,8 +491,7 @@ pub fn decode(frame: &[u8]) -> Decoded
     }
     let i = seek(opcode_of(frame), n);
     if i < 39 {
-        let row = table::row_at(i);
-        return judge((i + 1) as u64, row, frame);
+        return judge(i, frame);
     }
     if i == 39 {
         refused(Refusal::WrongLength)

@@ -1,7 +1,7 @@
 use mathlib.Core.Path.{sym, ap, _∙_}
 use borrow.Author.Needs.{needs}
 use Rattle.codec.specs.Decoding.{decoded}
-use Rattle.codec.proofs.Returns.{decode-short, row-ready, row-length, decode-row, decode-known, decode-unknown}
+use Rattle.codec.proofs.Returns.{decode-short, row-length, decode-row, decode-known, decode-unknown}
 use Rattle.codec.proofs.decode.Statement.{statement}
 use Rattle.codec.proofs.decode.Tie as tie
 
@@ -10,21 +10,18 @@ returns c = c .refused .ensures ∙ ap decoded (sym (decode-short (c .before .be
 
 judge-requires : tie.Need-judge-requires
 judge-requires c κs =
-    let k = c .before .before in
+    let k = c .before in
     let f = k .before .before .before .before .args .frame .now in
-    let o = k .before .opcode-of in (
-      row-ready f (o .result) (k .seek .result) (o .ensures) (k .seek .ensures) (c .row-at .result) (c .row-at .ensures) (c .before .if2 .taken),
-      row-length f (o .result) (k .seek .result) (o .ensures) (k .seek .ensures) (c .row-at .result) (c .row-at .ensures) (c .before .if2 .taken),
-    )
+    let o = k .before .opcode-of in
+    (c .if2 .taken, row-length f (o .result) (k .seek .result) (o .ensures) (k .seek .ensures) (c .if2 .taken))
 
 returns-2 : tie.Need-returns-2
 returns-2 c =
-    let k = c .before .before .before in
+    let k = c .before .before in
     let f = k .before .before .before .before .args .frame .now in
     let o = k .before .opcode-of in
-    let r = c .before .row-at in
     c .judge .ensures
-    ∙ ap decoded (decode-row f (o .result) (k .seek .result) (o .ensures) (k .seek .ensures) (r .result) (r .ensures) (c .before .before .if2 .taken) (k .before .before .if1 .left))
+    ∙ ap decoded (decode-row f (o .result) (k .seek .result) (o .ensures) (k .seek .ensures) (c .before .if2 .taken) (k .before .before .if1 .left))
 
 returns-3 : tie.Need-returns-3
 returns-3 c =
@@ -45,4 +42,4 @@ returns-4 c =
 pub decode-spec : {M : Type 1} → statement M
 decode-spec =
     tie.close
-    (tie.spec (search needs) returns (search needs) (search needs) (search needs) (search needs) judge-requires returns-2 (search needs) (search needs) returns-3 returns-4)
+    (tie.spec (search needs) returns (search needs) (search needs) judge-requires returns-2 (search needs) (search needs) returns-3 returns-4)
