@@ -1,34 +1,64 @@
 -- Where the quick tests pass: two words under their masks have no stray bit, and codes that are all taken leave none that lacks.
 -- Assumes nothing.
 use mathlib.Core.Path.{_≡_, sym, ap, ap₂, _∙_, subst}
-use mathlib.Core.Bool.{Bool, true}
+use mathlib.Core.Logic.{⊎-elim}
+use mathlib.Core.Bool.{Bool, true, false, _&&_}
 use mathlib.Core.List.{List, _++_}
-use Prim.Native.Nat.{ℕ, _-_, _<_}
+use Prim.Native.Nat.{ℕ, _-_, _≤_, _<_}
 use native.Mathlib.Omega.{arith}
+use borrow.Author.Tests.{eq-eqb}
 use lib.Bits.{bitAnd}
-use lib.Dec.{T}
+use lib.Dec.{T, eqb, eqb→eq}
 use lib.ListN.{length, getD, take, replicate}
 use lib.Seq.{take-at}
 use Rattle.frame.specs.Layout.{bytes, tab, maskOf}
+use Rattle.frame.proofs.OneField.{le-or-lt}
+use Rattle.frame.proofs.Fields.{both-left, both-right}
 use Rattle.table.specs.Table.{lenOf, countOf, numbersOf}
 use Rattle.codec.specs.Narrowed.{fieldsOf, argumentsIn, Ready}
-use Rattle.codec.specs.Words.{firstWord, lastWord, heldOf, InWords, allTaken}
+use Rattle.codec.specs.Words.{firstWord, lastWord, heldOf, cleanWords, InWords, allTaken}
 use Rattle.codec.specs.Decoding.{stray, lacking}
 use Rattle.codec.proofs.Steps.{long-numbers, length-reads, taken-none}
 use Rattle.codec.proofs.Masks.{stray-padded}
-use Rattle.codec.proofs.Words.{clean-words, masks-lt}
-use Rattle.codec.proofs.Accepted.{stray-clean}
+use Rattle.codec.proofs.Words.{clean-words, clean-first, clean-last, masks-lt}
+use Rattle.codec.proofs.Accepted.{none-stray, stray-clean}
 
-pub words-clean : (r f : List ℕ) → Ready r → lenOf r ≡ length f → ((i : ℕ) → bytes f i < 256) → (first last : ℕ) → InWords first last f → (held : List ℕ) → held ≡ heldOf r
-    → bitAnd first (getD held 0 0) ≡ first → bitAnd last (getD held 1 0) ≡ last → length f ≡ stray (tab 12 (maskOf (fieldsOf r))) f
-unfolding heldOf
-words-clean r f rd el small first last iw held eh p q =
-    let m : ℕ → ℕ = maskOf (fieldsOf r) in
-    let n : ℕ = length f in
-    let x : getD held 0 0 ≡ firstWord n m = ap (λ (l : List ℕ). getD l 0 0) eh ∙ ap (λ (k : ℕ). firstWord k m) el in
-    let y : getD held 1 0 ≡ lastWord n m = ap (λ (l : List ℕ). getD l 1 0) eh ∙ ap (λ (k : ℕ). lastWord k m) el in
-    sym (stray-padded m f (omega (arith, rd .most))
-    ∙ stray-clean m f (clean-words (bytes f) m small (λ i. masks-lt (lenOf r) (fieldsOf r) i (rd .inside)) n (omega (arith, rd .most)) (sym (ap₂ bitAnd (iw .first-is) x) ∙ p ∙ iw .first-is) (sym (ap₂ bitAnd (iw .last-is) y) ∙ q ∙ iw .last-is)))
+module _ (r f : List ℕ) (rd : Ready r) (el : lenOf r ≡ length f) (small : (i : ℕ) → bytes f i < 256) (first last : ℕ) (iw : InWords first last f) where
+  abbrev m : ℕ → ℕ
+  m = maskOf (fieldsOf r)
+
+  masks : (i : ℕ) → m i < 256
+  masks i = masks-lt (lenOf r) (fieldsOf r) i (rd .inside)
+
+  few : length f ≤ 12
+  few = omega (arith, rd .most)
+
+  firsts : bitAnd first (getD (heldOf r) 0 0) ≡ bitAnd (firstWord (length f) (bytes f)) (firstWord (length f) m)
+  unfolding heldOf
+  firsts = ap₂ bitAnd (iw .first-is) (ap (λ (k : ℕ). firstWord k m) el)
+
+  lasts : bitAnd last (getD (heldOf r) 1 0) ≡ bitAnd (lastWord (length f) (bytes f)) (lastWord (length f) m)
+  unfolding heldOf
+  lasts = ap₂ bitAnd (iw .last-is) (ap (λ (k : ℕ). lastWord k m) el)
+
+  pub words-clean : cleanWords (heldOf r) first last ≡ true → length f ≡ stray (tab 12 m) f
+  unfolding cleanWords
+  words-clean e =
+      let t : T (eqb (bitAnd first (getD (heldOf r) 0 0)) first && eqb (bitAnd last (getD (heldOf r) 1 0)) last) = subst T (sym e) tt in
+      let p = eqb→eq _ _ (both-left (eqb (bitAnd first (getD (heldOf r) 0 0)) first) (eqb (bitAnd last (getD (heldOf r) 1 0)) last) t) in
+      let q = eqb→eq _ _ (both-right (eqb (bitAnd first (getD (heldOf r) 0 0)) first) (eqb (bitAnd last (getD (heldOf r) 1 0)) last) t) in
+      sym (stray-padded m f few ∙ stray-clean m f (clean-words (bytes f) m small masks (length f) (omega (arith, few)) (sym firsts ∙ p ∙ iw .first-is) (sym lasts ∙ q ∙ iw .last-is)))
+
+  pub words-stray : cleanWords (heldOf r) first last ≡ false → stray (tab 12 m) f < length f
+  unfolding cleanWords
+  words-stray e = ⊎-elim (λ h. absurd (clash h)) (λ h. h) (le-or-lt (length f) (stray (tab 12 m) f))
+    where
+      clash : length f ≤ stray (tab 12 m) f → ⊥
+      clash h =
+          let c = none-stray m f (subst (λ (k : ℕ). length f ≤ k) (stray-padded m f few) h) in
+          let p : bitAnd first (getD (heldOf r) 0 0) ≡ first = firsts ∙ clean-first (bytes f) m small masks (length f) (omega (arith, few)) c ∙ sym (iw .first-is) in
+          let q : bitAnd last (getD (heldOf r) 1 0) ≡ last = lasts ∙ clean-last (bytes f) m small masks (length f) (omega (arith, few)) c ∙ sym (iw .last-is) in
+          subst T (sym (ap₂ _&&_ (eq-eqb _ _ p) (eq-eqb _ _ q)) ∙ e) tt
 
 pub none-lacking : (r : List ℕ) → length r ≡ 13 → Ready r → (f args : List ℕ) (t : Bool) → t ≡ true → t ≡ allTaken (numbersOf r) (bytes f) → args ≡ argumentsIn r f ++ replicate (9 - countOf r) 0
     → length f ≡ lacking (length f) (numbersOf r) (take (countOf r) args)

@@ -7,9 +7,9 @@ use mathlib.Core.List.{List, [], _∷_}
 use Prim.Native.Nat.{ℕ, zero, suc, _+_, _-_, _*_, _/_, _%_, _^_, _≤_, _<_, min}
 use native.Mathlib.Nat.{mod-one, div-one, mod-eq-of-lt, zero-add, add-zero, add-suc, add-comm, add-assoc, mul-assoc, add-mul-mod-self-right, lt-of-lt-of-le, eq-or-lt-of-le, le-of-suc-le-suc, not-suc-le-zero}
 use native.Mathlib.Omega.{arith}
-use borrow.Author.Tests.{le-leb, lt-leb, lt-ltb}
+use borrow.Author.Tests.{le-leb, lt-leb, lt-ltb, le-ltb}
 use lib.Pow.{pow-pos, pow-mono, pow-add, shl-lt, ones-lt, shr-shr, high, low, field, mod-pow-add, mod-mod-pow}
-use lib.Bits.{bitAnd, bitOr, and-block, and-le-l, or-lt}
+use lib.Bits.{bitAnd, bitOr, and-block, and-le-l, and-zero-l, or-lt}
 use lib.Dec.{T, leb}
 use Rattle.frame.specs.declared.Field.{Field}
 use Rattle.frame.specs.Field.{size, holds, rank, bits, mask, digit, readTo, read, sound, Sound}
@@ -32,18 +32,18 @@ split b m (suc k) =
     let e : x * 2 ^ (8 * suc k) ≡ x * 2 ^ (8 * k) * 256 = ap (λ (n : ℕ). x * n) (one-more k) ∙ sym (mul-assoc x (2 ^ (8 * k)) 256) in
     ap (bigEnd b) (add-suc m k) ∙ omega (arith, split b m k)
 
-bigEnd-ext : (b c : ℕ → ℕ) → ((i : ℕ) → b i ≡ c i) → (n : ℕ) → bigEnd b n ≡ bigEnd c n
+bigEnd-ext : (b c : ℕ → ℕ) (n : ℕ) → ((i : ℕ) → i < n → b i ≡ c i) → bigEnd b n ≡ bigEnd c n
 unfolding bigEnd
-bigEnd-ext b c h zero = refl
-bigEnd-ext b c h (suc n) = ap₂ (λ (x y : ℕ). x * 256 + y) (bigEnd-ext b c h n) (h n)
+bigEnd-ext b c zero h = refl
+bigEnd-ext b c (suc n) h = ap₂ (λ (x y : ℕ). x * 256 + y) (bigEnd-ext b c n (λ i l. h i (omega arith))) (h n (omega arith))
 
 pub from-start : (b : ℕ → ℕ) (n : ℕ) → bigEnd (from 0 b) n ≡ bigEnd b n
-from-start b n = bigEnd-ext (from 0 b) b (λ i. ap b (zero-add i)) n
+from-start b n = bigEnd-ext (from 0 b) b n (λ i l. ap b (zero-add i))
 
 -- two halves
 pub eight-is : (b : ℕ → ℕ) (at : ℕ) → bigEnd (from at b) 4 * 4294967296 + bigEnd (from (at + 4) b) 4 ≡ bigEnd (from at b) 8
 eight-is b at =
-    ap (λ (x : ℕ). bigEnd (from at b) 4 * 4294967296 + x) (bigEnd-ext (from (at + 4) b) (from 4 (from at b)) (λ i. ap b (add-assoc at 4 i)) 4)
+    ap (λ (x : ℕ). bigEnd (from at b) 4 * 4294967296 + x) (bigEnd-ext (from (at + 4) b) (from 4 (from at b)) 4 (λ i l. ap b (add-assoc at 4 i)))
     ∙ sym (split (from at b) 4 4)
 
 module _ (b : ℕ → ℕ) (small : (i : ℕ) → b i < 256) where
@@ -186,6 +186,20 @@ module _ (b m : ℕ → ℕ) (small : (i : ℕ) → b i < 256) (masks : (i : ℕ
 
           front : i < n - 8 → bitAnd (b i) (m i) ≡ b i
           front j = let g : 8 < n = omega arith in under-mask b m small masks 8 (simp (lt-ltb 8 n g) at e) i (omega arith)
+
+  -- and the other way round
+  module _ (clean : (i : ℕ) → i < n → bitAnd (b i) (m i) ≡ b i) where
+    pub clean-first : bitAnd (firstWord n b) (firstWord n m) ≡ firstWord n b
+    unfolding firstWord
+    clean-first = ⊎-elim
+        (λ l. simp (le-ltb 8 n l) (and-zero-l 0))
+        (λ l. simp (lt-ltb 8 n l) (and-words b m small masks 8 ∙ bigEnd-ext (λ i. bitAnd (b i) (m i)) b 8 (λ i h. clean i (omega arith)))) (le-or-lt n 8)
+
+    pub clean-last : bitAnd (lastWord n b) (lastWord n m) ≡ lastWord n b
+    unfolding lastWord
+    clean-last = ⊎-elim
+        (λ l. simp (le-leb 8 n l) (and-words (from (n - 8) b) (from (n - 8) m) (λ i. small (n - 8 + i)) (λ i. masks (n - 8 + i)) 8 ∙ bigEnd-ext (λ i. bitAnd (b (n - 8 + i)) (m (n - 8 + i))) (from (n - 8) b) 8 (λ i h. clean (n - 8 + i) (omega arith))))
+        (λ l. simp (lt-leb 8 n l) (and-words b m small masks n ∙ bigEnd-ext (λ i. bitAnd (b i) (m i)) b n clean)) (le-or-lt 8 n)
 
 -- a mask is a byte
 mask-lt : (n : ℕ) (f : Field) (i : ℕ) → Sound n f → mask f i < 256

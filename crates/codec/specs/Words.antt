@@ -3,8 +3,9 @@ use Prim.Native.Nat.{ℕ, zero, suc, _+_, _-_, _*_}
 use mathlib.Core.Path.{_≡_}
 use mathlib.Core.Bool.{Bool, true, cond, _&&_}
 use mathlib.Core.List.{List, [], _∷_}
-use lib.Dec.{leb, ltb}
-use lib.ListN.{length}
+use lib.Bits.{bitAnd}
+use lib.Dec.{eqb, leb, ltb}
+use lib.ListN.{length, getD}
 use Rattle.frame.specs.Field.{read}
 use Rattle.frame.specs.Layout.{bytes, maskOf}
 use Rattle.table.specs.Number.{narrowOf, codesOf}
@@ -32,6 +33,10 @@ lastWord n b = cond (leb 8 n) (bigEnd (from (n - 8) b) 8) (bigEnd b n)
 -- the bits that the row's fields hold, in two words
 unfoldable pub heldOf : List ℕ → List ℕ
 heldOf r = firstWord (lenOf r) (maskOf (fieldsOf r)) ∷ lastWord (lenOf r) (maskOf (fieldsOf r)) ∷ []
+
+-- whether each word lies under its mask
+unfoldable pub cleanWords : List ℕ → ℕ → ℕ → Bool
+cleanWords held first last = eqb (bitAnd first (getD held 0 0)) first && eqb (bitAnd last (getD held 1 0)) last
 
 -- the two words of a frame
 pub record InWords (first last : ℕ) (f : List ℕ) : Type 0 where

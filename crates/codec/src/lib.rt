@@ -1,7 +1,7 @@
 // The decoder and the checked builder: a frame's kind and arguments, and the frame of a kind for its arguments, by the one table.
 // The laws that tie them to each other and to the plain builders are in proofs/Laws.antt.
 ghost use mathlib.Core.Path.{_≡_};
-ghost use mathlib.Core.Bool.{_&&_};
+ghost use mathlib.Core.Bool.{true, _&&_};
 ghost use mathlib.Core.List.{[], _∷_, _++_};
 ghost use Prim.Native.Nat.{_+_, _-_, _/_, _%_, _^_, _≤_, _<_};
 ghost use lib.Dec.{ltb};
@@ -11,7 +11,7 @@ ghost use Rattle.frame.specs.Layout.{bytes, tab, puts, maskOf};
 ghost use Rattle.table.specs.Codes.{lists, isIn, takes};
 ghost use Rattle.table.specs.Table.{rowAt, lenOf, countOf, numbersOf};
 ghost use Rattle.codec.specs.Narrowed.{fieldsOf, frameOf, opcode, argumentsIn, Ready};
-ghost use Rattle.codec.specs.Words.{bigEnd, from, firstWord, lastWord, heldOf, InWords, allTaken};
+ghost use Rattle.codec.specs.Words.{bigEnd, from, firstWord, lastWord, heldOf, cleanWords, InWords, allTaken};
 ghost use Rattle.codec.specs.Decoding as decoder;
 ghost use Rattle.codec.specs.Decoding.{stray, lower, lacking, judged, sought, decode, decoded};
 ghost use Rattle.codec.specs.Building as builder;
@@ -367,17 +367,15 @@ fn refused(why: Refusal) -> Decoded
     }
 }
 
-// The lowest byte with a bit that no field of the row holds, or the frame's length. Only where a word has such a bit are bytes looked at.
-fn stray_at(held: [u64; 2], first: u64, last: u64, row: [u32; 13], frame: &[u8]) -> usize
-    requires { ⌜ Ready row × (lenOf row ≡ length (now frame)) × InWords first last (now frame) × (held ≡ heldOf row) ⌝ }
-    ensures { λ r. ⌜ r ≡ stray (tab 12 (maskOf (fieldsOf row))) (now (frame .entry)) ⌝ }
+// Whether each word lies under its mask, so that no byte has a stray bit.
+fn is_clean(held: [u64; 2], first: u64, last: u64) -> bool
+    ensures { λ r. ⌜ r ≡ cleanWords held first last ⌝ }
 {
     if first & held[0] == first {
-        if last & held[1] == last {
-            return frame.len();
-        }
+        last & held[1] == last
+    } else {
+        false
     }
-    first_stray(masks_of(row), frame)
 }
 
 // The lowest byte, below n, of a field that holds a code it lacks, or n. The fields are looked at again only where there is one.
@@ -393,23 +391,16 @@ fn lacking_at(taken: bool, row: [u32; 13], args: [u64; 9], frame: &[u8]) -> usiz
     }
 }
 
-// What a frame with the opcode and the length of the row at a place says.
-fn judge(i: usize, frame: &[u8]) -> Decoded
-    requires { ⌜ (i < 39) × (lenOf (rowAt i) ≡ length (now frame)) ⌝ }
+// What a frame with the opcode and the length of the row at a place says, where it has no stray bit.
+fn read_out(i: usize, first: u64, last: u64, frame: &[u8]) -> Decoded
+    requires { ⌜ (i < 39) × (lenOf (rowAt i) ≡ length (now frame)) × InWords first last (now frame) × (cleanWords (heldOf (rowAt i)) first last ≡ true) ⌝ }
     ensures { λ r. ⌜ r ≡ decoded (judged (i + 1) (rowAt i) (now (frame .entry))) ⌝ }
 {
-    let n = frame.len();
     let row = table::row_at(i);
-    let first = first_of(frame);
-    let last = last_of(frame);
-    let p = stray_at(held_at(i), first, last, row, frame);
-    if p < n {
-        return refused(Refusal::StrayBit(p));
-    }
     let held = arguments_of(row, first, last, frame);
     let args = held.args;
     let q = lacking_at(held.taken, row, args, frame);
-    if q < n {
+    if q < frame.len() {
         return refused(Refusal::UnknownCode(q));
     }
     Decoded {
@@ -417,6 +408,20 @@ fn judge(i: usize, frame: &[u8]) -> Decoded
         count: size(row[3]),
         args,
     }
+}
+
+// What a frame with the opcode and the length of the row at a place says. Bytes are looked at one by one only to find a stray bit's place.
+fn judge(i: usize, frame: &[u8]) -> Decoded
+    requires { ⌜ (i < 39) × (lenOf (rowAt i) ≡ length (now frame)) ⌝ }
+    ensures { λ r. ⌜ r ≡ decoded (judged (i + 1) (rowAt i) (now (frame .entry))) ⌝ }
+{
+    let first = first_of(frame);
+    let last = last_of(frame);
+    if is_clean(held_at(i), first, last) {
+        return read_out(i, first, last, frame);
+    }
+    let row = table::row_at(i);
+    refused(Refusal::StrayBit(first_stray(masks_of(row), frame)))
 }
 
 // Where an opcode's rows are, four second bytes to a line: 0x04_8_C is place 4, length 8, and length 12 at the next place; 0 is none.
