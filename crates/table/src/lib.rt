@@ -1,4 +1,4 @@
-// The command table: ONE constant of 39 rows that the plain builders, the checked builder, the decoder and the book read.
+// The command table: ONE constant of 39 named rows that the plain builders, the checked builder, the decoder and the book read.
 // Its numbers are proved equal to document 01's rows in specs/Table.antt.
 ghost use mathlib.Core.Path.{_≡_};
 ghost use Rattle.frame.specs.Layout.{put};
@@ -476,7 +476,7 @@ pub fn row_at(i: usize) -> [u32; 13]
     }
 }
 
-// The whole table, to be lent to what walks it.
+// The whole table, built on the stack.
 pub fn table() -> [[u32; 13]; 39]
     ensures { λ r. ⌜ r ≡ rows ⌝ }
 {
