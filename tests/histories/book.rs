@@ -1,0 +1,202 @@
+// The book as a plain list of frames, and the bytes that document 01 gives it. Written from document 01 alone.
+use crate::model::{commands, decode, Decoded};
+use crate::record::{Record, LENT};
+
+#[derive(Clone, Copy, PartialEq)]
+pub struct Answer {
+    pub refusal: u8,
+    pub place: u8,
+    pub written: u16,
+}
+
+fn done(written: usize) -> Answer {
+    Answer { refusal: 0, place: 0, written: written as u16 }
+}
+
+fn refused(refusal: u8) -> Answer {
+    Answer { refusal, place: 0, written: 0 }
+}
+
+#[derive(Clone)]
+pub struct Frame {
+    pub kind: u64,
+    pub bytes: Vec<u8>,
+}
+
+// "Actions, never kept: 8, 9, 10, 22, 23, 29, 30, 32, 36, 37. The other 29 kinds are settings; slot numbers 0 to 28 follow kind order."
+pub const ACTIONS: [u64; 10] = [8, 9, 10, 22, 23, 29, 30, 32, 36, 37];
+pub const SETTINGS: [u64; 29] =
+    [1, 2, 3, 4, 5, 6, 7, 11, 12, 13, 14, 15, 16, 17, 18, 19, 20, 21, 24, 25, 26, 27, 28, 31, 33, 34, 35, 38, 39];
+
+pub fn slot(kind: u64) -> Option<usize> {
+    SETTINGS.iter().position(|k| *k == kind)
+}
+
+pub fn length(kind: u64) -> usize {
+    commands().iter().find(|c| c.kind == kind).expect("a kind").length
+}
+
+// "byte 0 version 1, byte 1 count, bytes 2-3 end offset, then 29 two-byte offsets by slot (0 = absent), high byte first; frames from 62 in
+// order of first entry; zeros from the end on"
+pub fn image(frames: &[Frame], length: usize) -> Vec<u8> {
+    let mut bytes = vec![0; 62];
+    bytes[0] = 1;
+    bytes[1] = frames.len() as u8;
+    for frame in frames {
+        let at = 4 + 2 * slot(frame.kind).expect("a setting");
+        let offset = bytes.len() as u16;
+        bytes[at..at + 2].copy_from_slice(&offset.to_be_bytes());
+        bytes.extend(&frame.bytes);
+    }
+    let end = bytes.len() as u16;
+    bytes[2..4].copy_from_slice(&end.to_be_bytes());
+    bytes.resize(length, 0);
+    bytes
+}
+
+fn word(bytes: &[u8], at: usize) -> usize {
+    u16::from_be_bytes([bytes[at], bytes[at + 1]]) as usize
+}
+
+// "Well formed: version 1, present frames tile 62 to end exactly, count agrees, each decodes to its slot's kind, tail zero."
+fn well_formed(bytes: &[u8]) -> Option<Vec<Frame>> {
+    let end = word(bytes, 2);
+    let mut present: Vec<(usize, u64)> =
+        SETTINGS.iter().enumerate().map(|(s, kind)| (word(bytes, 4 + 2 * s), *kind)).filter(|(offset, _)| *offset != 0).collect();
+    present.sort();
+    if bytes[0] != 1 || bytes[1] as usize != present.len() || end > bytes.len() || bytes[end..].iter().any(|b| *b != 0) {
+        return None;
+    }
+    let mut frames = vec![];
+    let mut at = 62;
+    for (offset, kind) in present {
+        let next = at + length(kind);
+        if offset != at || next > end {
+            return None;
+        }
+        match decode(&bytes[at..next]) {
+            Decoded::Kind(k, _) if k == kind => frames.push(Frame { kind, bytes: bytes[at..next].to_vec() }),
+            _ => return None,
+        }
+        at = next;
+    }
+    if at == end { Some(frames) } else { None }
+}
+
+pub struct Book {
+    pub bytes: Vec<u8>,
+    // What the bytes hold; the refusal of a buffer that is no book.
+    pub content: Result<Vec<Frame>, u8>,
+    // What the latest call left in its output.
+    pub output: Vec<u8>,
+}
+
+fn counting(from: u8, length: usize) -> Vec<u8> {
+    (0..length).map(|i| from.wrapping_add(i as u8)).collect()
+}
+
+impl Book {
+    pub fn new() -> Book {
+        Book { bytes: vec![], content: Err(11), output: vec![] }
+    }
+
+    // "buffer not 62 to 4,096 bytes" comes before "book bytes not well formed".
+    fn judge(&mut self) {
+        self.content = if !(62..=4096).contains(&self.bytes.len()) { Err(11) } else { well_formed(&self.bytes).ok_or(10) };
+    }
+
+    fn holds(&mut self, frames: Vec<Frame>) -> Answer {
+        self.bytes = image(&frames, self.bytes.len());
+        self.content = Ok(frames);
+        done(0)
+    }
+
+    pub fn carry_out(&mut self, record: &Record) -> Answer {
+        let lent = match record {
+            Record::Ask { output, .. } | Record::Replay { output } => (*output).min(LENT),
+            _ => 0,
+        };
+        self.output = counting(165, lent);
+        match record {
+            Record::Lend { length, first } => {
+                self.bytes = counting(*first, *length);
+                self.judge();
+                done(0)
+            }
+            Record::Poke { at, data } => {
+                if at + data.len() <= self.bytes.len() {
+                    self.bytes[*at..at + data.len()].copy_from_slice(data);
+                    self.judge();
+                }
+                done(0)
+            }
+            // "Make needs no old content."
+            Record::Make if self.content.as_ref().err() == Some(&11) => refused(11),
+            Record::Make => self.holds(vec![]),
+            _ => match self.content.clone() {
+                Err(refusal) => refused(refusal),
+                Ok(frames) => self.call(record, frames),
+            },
+        }
+    }
+
+    // A call on a sound book, which holds these frames.
+    fn call(&mut self, record: &Record, mut frames: Vec<Frame>) -> Answer {
+        match record {
+            Record::Put { frame } => self.put(frame, frames),
+            Record::Clear => self.holds(vec![]),
+            Record::Replay { .. } => {
+                let reel: Vec<u8> = frames.iter().flat_map(|f| std::iter::once(f.bytes.len() as u8).chain(f.bytes.iter().copied())).collect();
+                self.write(&reel)
+            }
+            Record::Remove { kind } => match held(*kind, &frames) {
+                Err(refusal) => refused(refusal),
+                Ok(i) => {
+                    frames.remove(i);
+                    self.holds(frames)
+                }
+            },
+            Record::Ask { kind, .. } => match held(*kind, &frames) {
+                Err(refusal) => refused(refusal),
+                Ok(i) => self.write(&frames[i].bytes),
+            },
+            _ => unreachable!(),
+        }
+    }
+
+    // "put decodes before all else"; 13 for an action; "A kind already held is overwritten in its place."
+    fn put(&mut self, bytes: &[u8], mut frames: Vec<Frame>) -> Answer {
+        let kind = match decode(bytes) {
+            Decoded::Refused(refusal, place) => return Answer { refusal, place, written: 0 },
+            Decoded::Kind(kind, _) => kind,
+        };
+        if slot(kind).is_none() {
+            return refused(13);
+        }
+        let frame = Frame { kind, bytes: bytes.to_vec() };
+        match frames.iter_mut().find(|f| f.kind == kind) {
+            Some(place) => *place = frame,
+            None => frames.push(frame),
+        }
+        // "frames plus 62 would exceed the buffer"
+        if 62 + frames.iter().map(|f| f.bytes.len()).sum::<usize>() > self.bytes.len() {
+            return refused(8);
+        }
+        self.holds(frames)
+    }
+
+    // "report the bytes written and keep the rest of the output"
+    fn write(&mut self, bytes: &[u8]) -> Answer {
+        if bytes.len() > self.output.len() {
+            return refused(12);
+        }
+        self.output[..bytes.len()].copy_from_slice(bytes);
+        done(bytes.len())
+    }
+}
+
+// Where a kind's frame stands in the list; 13 for a kind that is no setting, 9 for one that is not held.
+fn held(kind: u64, frames: &[Frame]) -> Result<usize, u8> {
+    slot(kind).ok_or(13)?;
+    frames.iter().position(|f| f.kind == kind).ok_or(9)
+}

@@ -1,0 +1,384 @@
+// Random histories. They are the same on every run and machine: the random numbers have a fixed seed.
+use crate::book::{image, length, Book, Frame, ACTIONS, SETTINGS};
+use crate::model::{checked, commands, Built, Field};
+use crate::record::{Record, Records};
+use std::io::{Result, Write};
+
+// splitmix64.
+struct Random(u64);
+
+impl Random {
+    fn next(&mut self) -> u64 {
+        self.0 = self.0.wrapping_add(0x9E37_79B9_7F4A_7C15);
+        let z = (self.0 ^ self.0 >> 30).wrapping_mul(0xBF58_476D_1CE4_E5B9);
+        let z = (z ^ z >> 27).wrapping_mul(0x94D0_49BB_1331_11EB);
+        z ^ z >> 31
+    }
+
+    fn below(&mut self, n: usize) -> usize {
+        (self.next() % n as u64) as usize
+    }
+
+    fn within(&mut self, least: usize, most: usize) -> usize {
+        least + self.below(most - least + 1)
+    }
+
+    // True so many times in a hundred.
+    fn percent(&mut self, n: usize) -> bool {
+        self.below(100) < n
+    }
+
+    fn one_of<T: Copy>(&mut self, list: &[T]) -> T {
+        list[self.below(list.len())]
+    }
+
+    fn byte(&mut self) -> u8 {
+        self.next() as u8
+    }
+
+    fn bytes(&mut self, n: usize) -> Vec<u8> {
+        (0..n).map(|_| self.byte()).collect()
+    }
+
+    fn shuffle<T>(&mut self, list: &mut [T]) {
+        for i in (1..list.len()).rev() {
+            list.swap(i, self.below(i + 1));
+        }
+    }
+}
+
+// ---- frames
+
+fn argument(random: &mut Random, field: &Field) -> u64 {
+    if let Some(codes) = field.codes {
+        return random.one_of(codes);
+    }
+    let all = (!0u64).checked_shr(64 - field.bits.len() as u32).unwrap_or(0);
+    match random.below(8) {
+        0 => 0,
+        1 => all,
+        _ => random.next() & all,
+    }
+}
+
+fn good(random: &mut Random, kind: u64) -> Vec<u8> {
+    let command = commands().iter().find(|c| c.kind == kind).expect("a kind");
+    let arguments: Vec<u64> = command.fields.iter().map(|f| argument(random, f)).collect();
+    match checked(kind, &arguments) {
+        Built::Frame(frame) => frame,
+        Built::Refused(..) => unreachable!(),
+    }
+}
+
+// A good frame but for one enum, whose code is any that its field can hold.
+fn strange(random: &mut Random) -> Vec<u8> {
+    let kind = random.one_of(&[1, 7, 11, 14, 16, 17, 33, 35, 39]);
+    let mut frame = good(random, kind);
+    let command = commands().iter().find(|c| c.kind == kind).expect("a kind");
+    let coded: Vec<&Field> = command.fields.iter().filter(|f| f.codes.is_some()).collect();
+    for (byte, bit) in &coded[random.below(coded.len())].bits {
+        frame[*byte] = frame[*byte] & !(1 << bit) | (random.below(2) as u8) << bit;
+    }
+    frame
+}
+
+// A good frame of some kind, with damage that can give each of the refusals 1 to 5, or any bytes.
+fn damaged(random: &mut Random) -> Vec<u8> {
+    if random.percent(20) {
+        return strange(random);
+    }
+    let kind = random.within(1, 39) as u64;
+    let mut frame = good(random, kind);
+    let last = frame.len() - 1;
+    match random.below(9) {
+        0 => frame.truncate(random.below(2)),
+        1 => frame[1] = random.byte(),
+        2 => frame[0] = random.byte(),
+        3 => frame.truncate(random.below(last + 1)),
+        4 => frame.extend(random.bytes(1)),
+        5 if last > 1 => frame[random.within(2, last)] ^= 1 << random.below(8),
+        5 | 6 => frame[2..].iter_mut().for_each(|b| *b = random.byte()),
+        7 => {
+            let n = random.below(14);
+            frame = random.bytes(n)
+        }
+        _ => {
+            let n = if random.percent(30) { 255 } else { random.below(256) };
+            frame.resize(n, 0);
+        }
+    }
+    frame
+}
+
+// ---- damage to a book
+
+// Bytes to replace in a sound book: where, and by what.
+fn damage(random: &mut Random, bytes: &[u8], frames: &[Frame]) -> (usize, Vec<u8>) {
+    let offset_of = |frame: &Frame| 4 + 2 * crate::book::slot(frame.kind).expect("a setting");
+    let at = |place: usize| bytes[place..place + 2].to_vec();
+    let end = u16::from_be_bytes([bytes[2], bytes[3]]);
+    match random.below(12) {
+        0 => (0, vec![random.one_of(&[0, 2, 3, 255])]),
+        1 => (1, vec![random.one_of(&[bytes[1].wrapping_add(1), bytes[1].wrapping_sub(1), 29, 255])]),
+        2 => (2, random.one_of(&[end + 1, end - 1, 62, 61, 0, bytes.len() as u16, bytes.len() as u16 + 1, 65535]).to_be_bytes().to_vec()),
+        3 if (end as usize) < bytes.len() => (random.within(end as usize, bytes.len() - 1), vec![random.one_of(&[1, 128, 255])]),
+        3 | 4 => (random.below(bytes.len()), vec![random.byte()]),
+        5 => (random.below(62), vec![random.byte()]),
+        6 if !frames.is_empty() => (random.within(62, end as usize - 1), vec![random.byte()]),
+        // Two offsets swapped, whole header at once.
+        7 if frames.len() > 1 => {
+            let (a, b) = (random.below(frames.len()), random.below(frames.len()));
+            let (a, b) = (offset_of(&frames[a]), offset_of(&frames[b]));
+            let mut header = bytes[..62].to_vec();
+            header[a..a + 2].copy_from_slice(&at(b));
+            header[b..b + 2].copy_from_slice(&at(a));
+            (0, header)
+        }
+        // One offset where another's frame is, with the count as it was or one too many.
+        8 if !frames.is_empty() => {
+            let from = offset_of(&frames[random.below(frames.len())]);
+            let to = 4 + 2 * random.below(29);
+            let mut header = bytes[..62].to_vec();
+            header[to..to + 2].copy_from_slice(&at(from));
+            header[1] += random.below(2) as u8;
+            (0, header)
+        }
+        // A frame that no slot has any more, with or without the count that agrees.
+        9 if !frames.is_empty() => {
+            let gone = offset_of(&frames[random.below(frames.len())]);
+            let mut header = bytes[..62].to_vec();
+            header[gone..gone + 2].copy_from_slice(&[0, 0]);
+            header[1] -= random.below(2) as u8;
+            (0, header)
+        }
+        // An offset that is off by one.
+        10 if !frames.is_empty() => {
+            let place = offset_of(&frames[random.below(frames.len())]);
+            let offset = u16::from_be_bytes([bytes[place], bytes[place + 1]]);
+            (place, random.one_of(&[offset + 1, offset - 1]).to_be_bytes().to_vec())
+        }
+        _ => (random.within(1, 61), vec![random.byte()]),
+    }
+}
+
+// ---- histories
+
+// How long histories and buffers are: many and wide, or few and short for the stored sample.
+#[derive(Clone, Copy, PartialEq)]
+pub enum Size {
+    Wide,
+    Sample,
+}
+
+struct History<'a, W: Write> {
+    random: &'a mut Random,
+    to: &'a mut Records<W>,
+    book: Book,
+    // The kinds that puts choose from: few, so that they meet again, or all.
+    kinds: Vec<u64>,
+    // So many of a hundred calls on a sound book come with damage to it.
+    often: usize,
+}
+
+impl<W: Write> History<'_, W> {
+    fn record(&mut self, record: Record) -> Result<()> {
+        self.book.carry_out(&record);
+        self.to.write(&record)
+    }
+
+    fn frames(&self) -> &[Frame] {
+        self.book.content.as_deref().unwrap_or(&[])
+    }
+
+    // Replaces bytes of the buffer, as many as a record takes at a time.
+    fn poke(&mut self, at: usize, data: &[u8]) -> Result<()> {
+        for (i, part) in data.chunks(255).enumerate() {
+            self.record(Record::Poke { at: at + 255 * i, data: part.to_vec() })?;
+        }
+        Ok(())
+    }
+
+    // A sound book that was never put together by calls, in any order, as far as there is room.
+    fn hand_in(&mut self) -> Result<()> {
+        let size = self.book.bytes.len();
+        let mut kinds = SETTINGS.to_vec();
+        self.random.shuffle(&mut kinds);
+        kinds.truncate(self.random.below(30));
+        let mut left = size - 62;
+        let mut frames = vec![];
+        for kind in kinds {
+            if length(kind) <= left {
+                left -= length(kind);
+                frames.push(Frame { kind, bytes: good(self.random, kind) });
+            }
+        }
+        self.poke(0, &image(&frames, size))
+    }
+
+    // Puts a frame of every setting, in any order.
+    fn fill(&mut self) -> Result<()> {
+        self.record(Record::Make)?;
+        let mut kinds = SETTINGS.to_vec();
+        self.random.shuffle(&mut kinds);
+        for kind in kinds {
+            let frame = good(self.random, kind);
+            self.record(Record::Put { frame })?;
+        }
+        Ok(())
+    }
+
+    // Damage, some calls on the damaged book, and then the old bytes, a new book, or neither.
+    fn damage(&mut self) -> Result<()> {
+        let before = self.book.bytes.clone();
+        let frames = self.frames().to_vec();
+        let (at, data) = damage(self.random, &before, &frames);
+        let data = &data[..data.len().min(before.len() - at)];
+        self.poke(at, data)?;
+        for _ in 0..self.random.within(1, 3) {
+            self.call()?;
+        }
+        match self.random.below(4) {
+            0 | 1 if self.book.content.is_err() => self.poke(at, &before[at..at + data.len()]),
+            2 => self.record(Record::Make),
+            _ => Ok(()),
+        }
+    }
+
+    fn kind(&mut self) -> u64 {
+        let held = self.frames().len();
+        let any = self.random.within(1, 39) as u64;
+        match self.random.below(20) {
+            0 => self.random.one_of(&ACTIONS),
+            // Wrong kinds, and kinds whose low bytes are those of a setting.
+            1 => self.random.one_of(&[0, 40, 255, 300, u64::MAX, 1 << 63, 256 + any, (1 << 32) + any, (1 << 56) + any]),
+            2..=5 => self.random.one_of(&SETTINGS),
+            6..=8 => any,
+            _ if held > 0 => {
+                let i = self.random.below(held);
+                self.frames()[i].kind
+            }
+            _ => self.random.one_of(&SETTINGS),
+        }
+    }
+
+    // An output for an answer of so many bytes: too short by one, exact, longer, or any.
+    fn output(&mut self, need: usize) -> usize {
+        match self.random.below(6) {
+            0 => need.saturating_sub(1),
+            1 | 2 => need,
+            3 => need + 1,
+            4 => need + self.random.below(40),
+            _ => self.random.one_of(&[0, 1, 2, 3, 12, 13]),
+        }
+    }
+
+    fn put(&mut self) -> Result<()> {
+        let frame = match self.random.below(12) {
+            0 | 1 => damaged(self.random),
+            2 if self.random.percent(50) => {
+                let kind = self.random.one_of(&ACTIONS);
+                good(self.random, kind)
+            }
+            _ => {
+                let kind = self.kinds[self.random.below(self.kinds.len())];
+                good(self.random, kind)
+            }
+        };
+        self.record(Record::Put { frame })
+    }
+
+    fn call(&mut self) -> Result<()> {
+        match self.random.below(100) {
+            0..=51 => self.put(),
+            52..=67 => {
+                let kind = self.kind();
+                self.record(Record::Remove { kind })
+            }
+            68..=84 => {
+                let kind = self.kind();
+                let need = commands().iter().find(|c| c.kind == kind).map_or(4, |c| c.length);
+                let output = self.output(need);
+                self.record(Record::Ask { kind, output })
+            }
+            85..=95 => {
+                let need = self.frames().iter().map(|f| f.bytes.len() + 1).sum();
+                let output = self.output(need);
+                self.record(Record::Replay { output })
+            }
+            96..=97 => self.record(Record::Clear),
+            _ => self.record(Record::Make),
+        }
+    }
+
+    fn sound(&self) -> bool {
+        self.book.content.is_ok()
+    }
+
+    fn run(&mut self, calls: usize) -> Result<()> {
+        let size = self.book.bytes.len();
+        match self.random.below(20) {
+            0 => {}
+            1 | 2 if (62..=4096).contains(&size) => self.hand_in()?,
+            3 if size > 0 => {
+                let n = self.random.below(size.min(80));
+                let bytes = self.random.bytes(n);
+                self.poke(0, &bytes)?
+            }
+            4..=8 if (244..=300).contains(&size) => self.fill()?,
+            _ => self.record(Record::Make)?,
+        }
+        for _ in 0..calls {
+            if self.sound() && self.random.percent(self.often) {
+                self.damage()?;
+            } else if !self.sound() && self.random.percent(20) {
+                self.record(Record::Make)?;
+            } else {
+                self.call()?;
+            }
+        }
+        Ok(())
+    }
+}
+
+// A buffer's length, and the most calls that a history on it has.
+fn extent(random: &mut Random, size: Size) -> (usize, usize) {
+    if size == Size::Sample {
+        return match random.below(100) {
+            0 => (random.one_of(&[4095, 4096, 4097]), 2),
+            1..=3 => (random.one_of(&[245, 246, 247]), 4),
+            4..=9 => (random.one_of(&[0, 1, 3, 60, 61]), 20),
+            _ => (random.within(62, 88), 12),
+        };
+    }
+    match random.below(1000) {
+        0..=4 => (random.within(301, 4096), 20),
+        5..=9 => (random.one_of(&[4095, 4096]), 20),
+        10..=14 => (random.one_of(&[4097, 4098, 5000]), 6),
+        15..=34 => (random.below(62), 10),
+        35..=44 => (61, 10),
+        45..=244 => (random.within(62, 80), 60),
+        245..=644 => (random.within(81, 160), 60),
+        645..=944 => (random.within(161, 300), 60),
+        _ => (random.one_of(&[244, 245, 246, 247]), 60),
+    }
+}
+
+pub fn histories<W: Write>(count: usize, seed: u64, size: Size, to: W) -> Result<()> {
+    let mut random = Random(seed);
+    let mut to = Records::new(to);
+    for _ in 0..count {
+        let (length, most) = extent(&mut random, size);
+        let mut kinds = SETTINGS.to_vec();
+        random.shuffle(&mut kinds);
+        if random.percent(50) {
+            kinds.truncate(if size == Size::Sample { 2 } else { random.one_of(&[3, 5, 8]) });
+        }
+        let first = random.byte();
+        let calls = random.within(1, most);
+        let often = random.one_of(if size == Size::Sample { &[0, 15] } else { &[0, 0, 3, 12] });
+        let mut history = History { random: &mut random, to: &mut to, book: Book::new(), kinds, often };
+        history.record(Record::Lend { length, first })?;
+        history.run(calls)?;
+    }
+    to.flush()
+}
