@@ -16,6 +16,7 @@ use Rattle.refusal.specs.declared.Refusal.{Refusal}
 use Rattle.refusal.specs.declared.Refusal.the-variants.{BufferSize, NotWellFormed}
 use Rattle.book.specs.Settings.{settings, sizeOf, slotOf}
 use Rattle.book.specs.Plain.{flat, held}
+use Rattle.book.specs.Edits.{Tiles}
 use Rattle.book.specs.Book.{Contents, Layout, allZero, before, framesFrom, header, holds, image, judge, lengthAt, lengthBy, longest, offsetAt, place, presentFrom, refused, slotFrom, start, wordAt, words}
 use Rattle.book.proofs.Settings.{size-low, size-some, slotOf-length}
 use Rattle.book.proofs.Shape.{Sound, Within, count-held, count-same, countFrom, place-ge, place-none, present-count}
@@ -110,6 +111,8 @@ pub record Split (m : ℕ) (c : ℕ) (b : List ℕ) (p e : ℕ) (fs : List (List
   pub reads : framesFrom m c b (p + lengthAt m b p e) e ≡ holds rest
   pub slot : slotOf (take (lengthAt m b p e) (drop p b)) < settings
   pub long : length (take (lengthAt m b p e) (drop p b)) ≡ lengthAt m b p e
+  pub sized : lengthAt m b p e ≡ sizeOf (slotFrom m b p 0)
+  pub ends : p + lengthAt m b p e ≤ e
 
 pub framesFrom-split : (m : ℕ) (c : ℕ) (b : List ℕ) (p e : ℕ) (fs : List (List ℕ)) → framesFrom m (suc c) b p e ≡ holds fs → Split m c b p e fs
 unfolding framesFrom lengthAt
@@ -121,7 +124,15 @@ framesFrom-split m c b p e fs h =
     let g = lengthBy-found m k b p e (eqb-false l 0 (s .0)) in
     let d : slotOf (take l (drop p b)) ≡ k = ap (λ (x : ℕ). slotOf (take x (drop p b))) (g .long) ∙ g .decodes in
     let small : slotOf (take l (drop p b)) < settings = omega (arith, g .slot) in
-    record { rest = r .rest; whole = r .whole; reads = r .reads; slot = small; long = slotOf-length (take l (drop p b)) small ∙ ap (λ (x : ℕ). sizeOf x) d ∙ sym (g .long) }
+    record {
+      rest = r .rest;
+      whole = r .whole;
+      reads = r .reads;
+      slot = small;
+      long = slotOf-length (take l (drop p b)) small ∙ ap (λ (x : ℕ). sizeOf x) d ∙ sym (g .long);
+      sized = g .long;
+      ends = omega (arith, g .within, g .long);
+    }
 
 pub framesFrom-none : (m : ℕ) (b : List ℕ) (p e : ℕ) (fs : List (List ℕ)) → framesFrom m 0 b p e ≡ holds fs → [] ≡ fs
 unfolding framesFrom
@@ -281,3 +292,20 @@ reads-image l b fs B R =
 -- whatever `judge` accepts is the image of its list
 pub judge-image : (l : Layout) (b : List ℕ) (fs : List (List ℕ)) → Bytes b → judge l b ≡ holds fs → b ≡ image l (length b) fs
 judge-image l b fs B h = reads-image l b fs B (judge-reads l b fs h)
+
+-- one frame less to write
+pub record Onward (m k : ℕ) (b : List ℕ) (p e n : ℕ) : Type 0 where
+  pub same : n ≡ lengthAt m b p e
+  pub ends : p + n ≤ e
+  pub rest : Tiles m k b (p + n) e
+
+pub tiles-step : (m c i : ℕ) (b : List ℕ) (p e n : ℕ) → i < c → n ≡ sizeOf (slotFrom m b p 0) → Tiles m (c - i) b p e → Onward m (c - (i + 1)) b p e n
+tiles-step m c i b p e n h en t =
+    let k : c - i ≡ suc (c - (i + 1)) = omega arith in
+    let s = framesFrom-split m (c - (i + 1)) b p e (t .frames) (ap (λ (x : ℕ). framesFrom m x b p e) (sym k) ∙ t .reads) in
+    let q : n ≡ lengthAt m b p e = en ∙ sym (s .sized) in
+    record {
+      same = q;
+      ends = omega (arith, s .ends);
+      rest = record { frames = s .rest; reads = ap (λ (x : ℕ). framesFrom m (c - (i + 1)) b (p + x) e) q ∙ s .reads };
+    }

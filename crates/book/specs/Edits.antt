@@ -1,12 +1,13 @@
 -- What the code's edits make of a buffer, byte by byte. That they give the image of the list after a call is proved in proofs/.
 -- Assumes nothing.
 use Prim.Native.Nat.{ℕ, zero, suc, _+_, _-_, _*_, _/_, _%_}
+use mathlib.Core.Path.{_≡_}
 use mathlib.Core.Bool.{cond}
 use mathlib.Core.List.{List}
 use lib.Dec.{eqb, ltb}
 use lib.ListN.{length, take, drop, getD, set, replicate}
 use lib.Seq.{paste}
-use Rattle.book.specs.Book.{offsetAt, lengthAt}
+use Rattle.book.specs.Book.{offsetAt, lengthAt, holds, framesFrom}
 
 -- the number v in the two bytes at i, high byte first
 unfoldable pub setWord : List ℕ → ℕ → ℕ → List ℕ
@@ -31,6 +32,11 @@ takenOut m b at len e =
     setWord
     (set (remap (closedAt at len) m (paste (paste b at (drop (at + len) b) (e - (at + len))) (e - len) (replicate len 0) len) 0) 1 (getD b 1 0 - 1))
     2 (e - len)
+
+-- c frames tile the bytes from p to e
+pub record Tiles (m c : ℕ) (b : List ℕ) (p e : ℕ) : Type 0 where
+  pub frames : List (List ℕ)
+  pub reads : framesFrom m c b p e ≡ holds frames
 
 -- the c frames from p on, each after its length, written to o from w on
 unfoldable pub reelFrom : ℕ → ℕ → List ℕ → ℕ → ℕ → ℕ → List ℕ → List ℕ

@@ -8,7 +8,7 @@ ghost use lib.Seq.{paste};
 ghost use Rattle.book.specs.Settings.{settings, slotFor, sizeOf, slotOf};
 ghost use Rattle.book.specs.Plain.{declinedOf, putOn, removeOn, askOn, clearOn, replayOn};
 ghost use Rattle.book.specs.Book.{ours, layout, start, longest, wordAt, offsetAt, slotFrom, presentFrom, lengthAt, framesFrom, allZero, judge, verdict, opened, image, call, made, Permits, Tells};
-ghost use Rattle.book.specs.Edits.{setWord, appended, closedAt, remap, takenOut, reelFrom};
+ghost use Rattle.book.specs.Edits.{setWord, appended, closedAt, remap, takenOut, Tiles, reelFrom};
 use refusal::Refusal;
 
 // A call's answer: done, with the number of bytes written where the call writes to an output and else 0; or why it was refused.
@@ -362,16 +362,24 @@ fn write_frame(b: &[u8], p: usize, n: usize, out: &mut [u8], w: usize)
     write(out, w + 1, &b[p..p + n]);
 }
 
+// How long the frame at p of a sound book is: its slot says it, and it need not be decoded again.
+fn kept_len(b: &[u8], slots: usize, p: usize) -> usize
+    requires { ⌜ (start slots ≤ length (now b)) × (slots ≤ 64) ⌝ }
+    ensures { λ r. ⌜ (r ≡ sizeOf (slotFrom slots (now (b .entry)) p 0)) × (r ≤ 12) ⌝ }
+{
+    size_of(slot_at(b, slots, p))
+}
+
 // The c frames that tile the bytes up to e, as a reel.
 fn write_reel(b: &[u8], slots: usize, c: usize, e: usize, out: &mut [u8])
-    requires { ⌜ (start slots ≤ e) × (slots ≤ 64) × (e ≤ length (now b)) × (e - start slots + c ≤ length (now out)) ⌝ }
+    requires { ⌜ (start slots ≤ e) × (slots ≤ 64) × (e ≤ length (now b)) × (e - start slots + c ≤ length (now out)) × Tiles slots c (now b) (start slots) e ⌝ }
     ensures { λ _. ⌜ now (out .exit) ≡ reelFrom slots c (now (b .entry)) (start slots) e 0 (now (out .entry)) ⌝ }
 {
     let mut p: usize = 4 + 2 * slots;
     let mut w: usize = 0;
     let mut i: usize = 0;
     while i < c {
-        let n = len_at(b, slots, p, e);
+        let n = kept_len(b, slots, p);
         write_frame(b, p, n, out, w);
         p += n;
         w = w + 1 + n;

@@ -1,8 +1,9 @@
-use mathlib.Core.Path.{sym, _∙_}
+use mathlib.Core.Path.{ap₂, sym, _∙_}
+use Prim.Native.Nat.{ℕ}
 use native.Mathlib.Omega.{arith}
 use borrow.Author.Needs.{needs}
 use denote.Ref.{now}
-use Rattle.book.specs.Book.{ours}
+use Rattle.book.specs.Book.{framesFrom, ours}
 use Rattle.book.proofs.Calls.{Holds, holds-reads, opened-holds, tells, turned-away}
 use Rattle.book.proofs.Judged.{Bytes}
 use Rattle.book.proofs.Telling.{replay-done, replay-short}
@@ -35,7 +36,7 @@ sub-total c =
 write-reel-requires : tie.Need-write-reel-requires
 write-reel-requires c κs =
     let s = c .before .before .before .before .before in
-    let r = holds-reads ours _ (known s) in (omega (arith, r .low), omega arith, omega (arith, r .high), omega arith)
+    let r = holds-reads ours _ (known s) in (omega (arith, r .low), omega arith, omega (arith, r .high), omega arith, record { frames = known s .frames; reads = ap₂ (λ (n e : ℕ). framesFrom 29 n (now (s .before .before .before .before .before .args .book)) 62 e) (c .before .before .wide .ensures .0) (c .before .before .before .before .word .ensures .0) ∙ r .tiled })
 
 returns-2 : tie.Need-returns-2
 returns-2 c =
