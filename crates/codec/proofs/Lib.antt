@@ -8,6 +8,8 @@ pub mod Fitting
 pub mod Accepted
 pub mod Clean
 pub mod Narrowing
+pub mod Typed
+pub mod Places
 pub mod Laws
 pub mod Handed
 pub mod Outcome

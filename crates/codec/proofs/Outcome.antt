@@ -7,3 +7,6 @@ decode-once κs a h o u p q i = (same p q i, o .1)
 
 checked-once : Once codec.checked.ended codec.checked.Reads.Pre codec.checked.Reads.Learnt
 checked-once κs a h o u p q i = (same p q i, o .1)
+
+plain-once : Once codec.plain.ended codec.plain.Reads.Pre codec.plain.Reads.Learnt
+plain-once κs a h o u p q i = (same p q i, o .1)

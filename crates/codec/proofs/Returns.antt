@@ -167,7 +167,7 @@ module _ (f : List ℕ) (o i : ℕ) (eo : o ≡ opcode f) (ei : i ≡ sought o (
 -- ---- build
 
 -- where no argument is outside there are as many as the row has fields
-as-many : (n : ℕ) (cs vs : List ℕ) → outside (suc n) cs vs ≡ 0 → length vs ≡ length cs
+pub as-many : (n : ℕ) (cs vs : List ℕ) → outside (suc n) cs vs ≡ 0 → length vs ≡ length cs
 unfolding outside
 as-many n [] [] e = refl
 as-many n [] (v ∷ vs) e = absurd (omega arith)

@@ -14,6 +14,7 @@ ghost use Rattle.codec.specs.Narrowed.{fieldsOf, frameOf, opcode, argume
 ghost use Rattle.codec.specs.Words.{bigEnd, from, firstWord, lastWord, heldOf, cleanWords, InWords, allTaken};
 ghost use Rattle.codec.specs.Decoding as decoder;
 ghost use Rattle.codec.specs.Decoding.{stray, lower, lacking, judged, sought, decode, decoded};
+ghost use Rattle.codec.specs.Typed.{coded, widened, rangeOf, rangedRow, called, plainBy};
 ghost use Rattle.codec.specs.Building as builder;
 ghost use Rattle.codec.specs.Building.{allows, outside, unless, checked, built};
 use frame::Field;
@@ -288,17 +289,10 @@ fn both(a: bool, b: bool) -> bool
     if a { b } else { false }
 }
 
-// The arguments that a frame holds, with zeros behind them, and whether each is a code that its field takes.
-struct Held {
-    taken: bool,
-    args: [u64; 9],
-}
-
-fn arguments_of(row: [u32; 13], first: u64, last: u64, frame: &[u8]) -> Held
-    requires { ⌜ Ready row × (lenOf row ≡ length (now frame)) × InWords first last (now frame) ⌝ }
-    ensures { λ r. ⌜ (r .taken ≡ allTaken (numbersOf row) (bytes (now (frame .entry)))) × (r .args ≡ argumentsIn row (now (frame .entry)) ++ replicate (9 - countOf row) 0) ⌝ }
+fn arguments_of(row: [u32; 13], first: u64, last: u64, frame: &[u8], args: &mut [u64; 9]) -> bool
+    requires { ⌜ Ready row × (lenOf row ≡ length (now frame)) × InWords first last (now frame) × (now args ≡ replicate 9 0) ⌝ }
+    ensures { λ r. ⌜ (r ≡ allTaken (numbersOf row) (bytes (now (frame .entry)))) × (now (args .exit) ≡ argumentsIn row (now (frame .entry)) ++ replicate (9 - countOf row) 0) ⌝ }
 {
-    let mut args = [0u64; 9];
     let mut taken = true;
     let n = size(row[3]);
     let mut j: usize = 0;
@@ -310,7 +304,7 @@ fn arguments_of(row: [u32; 13], first: u64, last: u64, frame: &[u8]) -> Held
         taken = next;
         j += 1;
     }
-    Held { taken, args }
+    taken
 }
 
 // ---- the decoder
@@ -397,9 +391,9 @@ fn read_out(i: usize, first: u64, last: u64, frame: &[u8]) -> Decoded
     ensures { λ r. ⌜ r ≡ decoded (judged (i + 1) (rowAt i) (now (frame .entry))) ⌝ }
 {
     let row = table::row_at(i);
-    let held = arguments_of(row, first, last, frame);
-    let args = held.args;
-    let q = lacking_at(held.taken, row, args, frame);
+    let mut args = [0u64; 9];
+    let taken = arguments_of(row, first, last, frame, &mut args);
+    let q = lacking_at(taken, row, args, frame);
     if q < frame.len() {
         return refused(Refusal::UnknownCode(q));
     }
@@ -565,4 +559,124 @@ pub fn checked(kind: u64, args: &[u64]) -> Built
     }
     let row = table::row_at((kind - 1) as usize);
     build(row, args)
+}
+
+// ---- the plain builder, by number
+
+// Which arguments of each kind the Rust takes as an enum or a yes or no: bit 0 is the first argument's.
+const CODED: [u32; 39] = [
+    0b1_1111,
+    0b1_1100,
+    0b10,
+    0,
+    0b1,
+    0b1,
+    0b1010,
+    0,
+    0,
+    0,
+    0b1,
+    0,
+    0,
+    0b1,
+    0b1000,
+    0b110,
+    0b1_1011_1110,
+    0b1,
+    0,
+    0b10,
+    0,
+    0,
+    0,
+    0,
+    0b1,
+    0b11,
+    0b11,
+    0b11,
+    0,
+    0,
+    0b1,
+    0b100,
+    0b11,
+    0,
+    0b11,
+    0,
+    0,
+    0,
+    0b100,
+];
+
+// All nine arguments.
+const ALL: u32 = 0b1_1111_1111;
+
+// The cell of a field that holds any number.
+const ANY: u32 = 0x0040_0000;
+
+fn coded_at(i: usize) -> u32
+    requires { ⌜ i < 39 ⌝ }
+    ensures { λ r. ⌜ r ≡ getD coded i 0 ⌝ }
+{
+    CODED[i]
+}
+
+// The cell, with the width that the plain builder has.
+fn widened(number: u32) -> u32
+    ensures { λ r. ⌜ r ≡ widened number ⌝ }
+{
+    let w = (number / 0x1_0000 % 256 + number / 0x1000 % 16) % 256;
+    number / 0x100_0000 * 0x100_0000 + w * 0x1_0000 + number % 0x1000
+}
+
+// The range of an argument, as a cell.
+fn range_of(number: u32, is_coded: bool) -> u32
+    ensures { λ r. ⌜ r ≡ rangeOf number «is_coded» ⌝ }
+{
+    if is_coded { widened(number) } else { ANY }
+}
+
+// The row, with the arguments' ranges in the place of its cells.
+fn ranged(row: [u32; 13], coded: u32) -> [u32; 13]
+    ensures { λ r. ⌜ r ≡ rangedRow row coded ⌝ }
+{
+    let mut out = row;
+    let mut left = coded;
+    let mut j: usize = 0;
+    while j < 9 {
+        let cell = range_of(row[4 + j], left % 2 == 1);
+        out[4 + j] = cell;
+        left = left / 2;
+        j += 1;
+    }
+    out
+}
+
+// The frame of the row at a place, unless its builder could not be called with the arguments.
+fn build_plain(i: usize, args: &[u64]) -> Built
+    requires { ⌜ i < 39 ⌝ }
+    ensures { λ r. ⌜ r ≡ built (called i (now (args .entry))) ⌝ }
+{
+    let row = table::row_at(i);
+    let bad = first_outside(ranged(row, coded_at(i)), args);
+    if 0 < bad {
+        return declined(Refusal::ArgumentOutside(bad));
+    }
+    let bytes = packed(ranged(row, ALL), long(row[0]), args);
+    Built {
+        verdict: Verdict::Frame(size(row[1])),
+        bytes,
+    }
+}
+
+// The plain builder of a kind, called with numbers: those that fit no field are masked, and only what the typed builder could not be
+// called with is refused.
+pub fn plain(kind: u64, args: &[u64]) -> Built
+    ensures { λ r. ⌜ r ≡ built (plainBy kind (now (args .entry))) ⌝ }
+{
+    if kind == 0 {
+        return declined(Refusal::NotAKind);
+    }
+    if 39 < kind {
+        return declined(Refusal::NotAKind);
+    }
+    build_plain((kind - 1) as usize, args)
 }

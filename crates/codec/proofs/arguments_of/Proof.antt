@@ -18,15 +18,15 @@ use Rattle.codec.proofs.arguments_of.Statement.{statement}
 use Rattle.codec.proofs.arguments_of.Tie as tie
 
 abbrev Inv-loop : tie.InvT-loop
-Inv-loop first last frame row args₀ taken₀ n j₀ args taken j =
+Inv-loop first last frame args₀ row taken₀ n j₀ args taken j =
     (j ≤ countOf row) × (countOf row ≤ 9) × (args ≡ firstRead row frame j) × ((taken && allTaken (drop j (numbersOf row)) (bytes frame)) ≡ allTaken (numbersOf row) (bytes frame))
 
 abbrev μ-loop : tie.MeasureT-loop
-μ-loop first last frame row args₀ taken₀ n j₀ args taken j = countOf row - j
+μ-loop first last frame args₀ row taken₀ n j₀ args taken j = countOf row - j
 
 loop-holds : tie.Need-loop-holds Inv-loop μ-loop
 unfolding reads narrowsOf
-loop-holds c = (search needs, c .before .before .pre .0 .few, refl, refl)
+loop-holds c = (search needs, c .before .before .pre .0 .few, c .before .before .pre .3, refl)
 
 read-at-requires : tie.Need-read-at-requires Inv-loop μ-loop
 read-at-requires c κs =
