@@ -2,4 +2,5 @@ pub mod Writing
 pub mod Arguments
 pub mod Passing
 pub mod Parts
+pub mod Whole
 pub mod Outcome

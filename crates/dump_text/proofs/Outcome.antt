@@ -7,3 +7,6 @@ pass-once κs a h o u p q i = (
   same (p .0 .told) (q .0 .told) i,
   (o .1 .0, (o .1 .1 .0, (o .1 .1 .1 .0, (same (p .0 .stands) (q .0 .stands) i, o .1 .1 .1 .1 .1)))),
 )
+
+dump-once : Once dump_text.dump.ended dump_text.dump.Reads.Pre dump_text.dump.Reads.Learnt
+dump-once κs a h o u p q i = (same (p .0) (q .0) i, (o .1 .0, (same (p .1) (q .1) i, o .1 .1 .1)))

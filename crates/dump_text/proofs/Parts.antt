@@ -23,7 +23,7 @@ use Rattle.dump_text.proofs.Passing.{lines-stop, lines-line, lines-more
 abbrev pub Tells : ℕ → List ℕ → Lines → Type 0
 Tells index reel l = textAt index reel ≡ l .text ++ textAt (l .next) (drop (l .used) reel)
 
-text-nil : (index : ℕ) → textAt index [] ≡ []
+pub text-nil : (index : ℕ) → textAt index [] ≡ []
 unfolding textFrom
 text-nil index = rw unreel-nil refl
 

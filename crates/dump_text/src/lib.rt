@@ -1,14 +1,16 @@
 // The text of a dump: a line for each frame of a reel. specs/Text.antt says what the text of a reel is.
 // `pass` works in parts, so that a reel of any length goes through buffers of fixed size: proofs/Parts.antt says that the parts make up the whole.
 ghost use mathlib.Core.Path.{_≡_};
+ghost use mathlib.Core.Bool.{true, cond};
 ghost use mathlib.Core.List.{[], _∷_, _++_};
 ghost use Prim.Native.Nat.{_+_, _≤_};
 ghost use lib.ListN.{length, take};
 ghost use Rattle.reading.specs.Decimal.{digit, decimal};
 ghost use Rattle.codec.specs.Decoding.{reading, refuses, decode};
 ghost use Rattle.reel.specs.Reel.{unreel};
-ghost use Rattle.dump_text.specs.Text.{blanked, lineOf};
+ghost use Rattle.dump_text.specs.Text.{blanked, lineOf, textOf};
 ghost use Rattle.dump_text.specs.Parts.{goesOn, linesOf, Puts, Passes};
+ghost use Rattle.dump_text.specs.Whole.{dumped, filled, laidAt, Lays};
 use codec::Answer;
 use reel::Cursor;
 use reel::Step;
@@ -192,4 +194,58 @@ pub fn pass(index: u64, input: &[u8], more: bool, out: &mut [u8]) -> Passed
         written,
         next,
     }
+}
+
+// ---- a whole text in one output
+
+// What a dump into one output gives: the bytes of its text, or why there is none.
+pub enum Dumped {
+    Text(usize),
+    Refused(Refusal),
+}
+
+// Puts a part of a text at its place, if asked to.
+fn lay_part(part: &[u8], out: &mut [u8], at: usize, write: bool)
+    requires { ⌜ at + length (now part) ≤ length (now out) ⌝ }
+    ensures { λ _. ⌜ now (out .exit) ≡ cond write (laidAt (now (part .entry)) at (now (out .entry))) (now (out .entry)) ⌝ }
+{
+    if write {
+        bytes::copy(part, &mut out[at..]);
+    }
+}
+
+// Goes through the text in parts, and tells how long it is, or at least that it is longer than the output; puts it at the start of `out`
+// if asked to.
+fn lay(reel: &[u8], out: &mut [u8], write: bool) -> usize
+    requires { ⌜ (write ≡ true → length (textOf (now reel)) ≤ length (now out)) ⌝ }
+    ensures { λ r. ⌜ Lays (textOf (now (reel .entry))) write (now (out .entry)) r (now (out .exit)) ⌝ }
+{
+    let mut part = [0u8; 512];
+    let mut used: usize = 0;
+    let mut at: usize = 0;
+    let mut index: u64 = 0;
+    while used < reel.len() {
+        let p = pass(index, &reel[used..], false, &mut part);
+        let n = p.written;
+        if out.len() - at < n {
+            return at + n;
+        }
+        lay_part(&part[0..n], out, at, write);
+        used += p.used;
+        index = p.next;
+        at += n;
+    }
+    at
+}
+
+// The text of a reel at the start of `out`, or a refusal where the output is too short.
+pub fn dump(reel: &[u8], out: &mut [u8]) -> Dumped
+    ensures { λ r. ⌜ (r ≡ dumped (textOf (now (reel .entry))) (now (out .entry))) × (now (out .exit) ≡ filled (textOf (now (reel .entry))) (now (out .entry))) ⌝ }
+{
+    let n = lay(reel, out, false);
+    if n <= out.len() {
+        lay(reel, out, true);
+        return Dumped::Text(n);
+    }
+    Dumped::Refused(Refusal::OutputShort)
 }
