@@ -1,0 +1,180 @@
+-- Nothing is cut on its way to C. Assumes nothing.
+use mathlib.Core.Path.{_≡_, refl, sym, ap, _∙_, subst}
+use mathlib.Core.Bool.{Bool, true, false, cond}
+use mathlib.Core.List.{List, [], _++_}
+use Prim.Native.Nat.{ℕ, zero, suc, _+_, _-_, _≤_, _<_}
+use native.Mathlib.Omega.{arith}
+use lib.IntN.{ℤ, pos, negsuc, natAbs}
+use lib.Signed.{mag}
+use lib.Dec.{eqb, ltb, leb}
+use lib.ListN.{length, getD, take, drop, replicate, length-take, length-append, length-replicate}
+use lib.Seq.{take-all, take-take, take-append-seam}
+use Rattle.reading.specs.declared.Text.{Text}
+use Rattle.reading.specs.Level.{textOf}
+use Rattle.refusal.specs.declared.Refusal.{Refusal}
+use Rattle.refusal.specs.declared.Refusal.the-variants.{NoRoom, NotWellFormed, BufferSize}
+use Rattle.refusal.specs.Numbers.{placeOf}
+use Rattle.codec.specs.declared.Decoded.{Decoded}
+use Rattle.codec.specs.declared.Built.{Built}
+use Rattle.codec.specs.Decoding.{Reading, reading, refuses, decode, decoded}
+use Rattle.codec.specs.Building as builder
+use Rattle.codec.specs.Building.{Making, makes, checked, built}
+use Rattle.codec.specs.Typed.{plainBy}
+use Rattle.codec.proofs.Laws.{decode-kind}
+use Rattle.codec.proofs.Places.{placeIn, decode-place, Within, checked-within, plain-within}
+use Rattle.dump_text.proofs.Arguments.{decode-few}
+use Rattle.book.specs.Book.{ours, Contents, refused, holds, given, before, framesFrom, lengthAt, start, longest, wordAt, presentFrom, allZero, judge, opened, onContents, roomOf, call}
+use Rattle.book.specs.Settings.{settings, slotOf, lacks}
+use Rattle.book.specs.Plain.{Turn, become, refuse, placed, flat, putOn}
+use Rattle.status.specs.declared.CmdStatus.{CmdStatus}
+use Rattle.status.specs.declared.CmdStatus.the-variants as cmd
+use Rattle.status.specs.declared.ResetSrc.{ResetSrc}
+use Rattle.status.specs.declared.ResetSrc.the-variants as reset
+use Rattle.status.specs.declared.ChipModeStatus.{ChipModeStatus}
+use Rattle.status.specs.declared.ChipModeStatus.the-variants as mode
+use Rattle.status.specs.Codes.{cmdCode, resetCode, modeCode}
+use Rattle.hoardbutton.specs.Books.{spot, answerC}
+use Rattle.hoardbutton.specs.Frames.{low, whereFrame, longFrame, frameC, whereRead, kindRead, decodedC}
+
+pub beyond : (n k : ℕ) → k ≤ n → (n ≡ k → ⊥) → suc k ≤ n
+beyond n k h d = omega arith
+
+-- ---- texts
+
+-- a text lies within its eight bytes, and no shorter text is cut
+module _ (t : Text) (l : List ℕ) (e : t ≡ textOf l) where
+  pub text-fits : t .len ≤ length (t .bytes)
+  unfolding textOf
+  text-fits =
+      let n : length (take 8 l) ≤ length (take 8 (l ++ replicate 8 0)) = omega (arith, length-take 8 l, length-take 8 (l ++ replicate 8 0), length-append l (replicate 8 0), length-replicate {A = ℕ} 8 0) in
+      subst (λ (x : Text). x .len ≤ length (x .bytes)) (sym e) n
+
+  pub text-shown : length l ≤ 8 → take (t .len - 0) (t .bytes) ≡ l
+  unfolding textOf
+  text-shown h =
+      let n : length (take 8 l) - 0 ≡ length l = ap (λ (x : List ℕ). length x - 0) (take-all 8 l h) ∙ omega arith in
+      ap (λ (x : Text). take (x .len - 0) (x .bytes)) e
+      ∙ ap (λ (k : ℕ). take k (take 8 (l ++ replicate 8 0))) n
+      ∙ take-take (length l) 8 (l ++ replicate 8 0) h
+      ∙ take-append-seam l (replicate 8 0)
+
+pub abs-small : (z : ℤ) → mag z < 128 → natAbs z ≤ 128
+abs-small (pos n) h = omega arith
+abs-small (negsuc n) h = omega arith
+
+-- ---- the codes of a status
+
+pub low-cmd : (x : CmdStatus) → low (cmdCode x) ≡ cmdCode x
+low-cmd cmd.Fail = refl
+low-cmd cmd.PErr = refl
+low-cmd cmd.Ok = refl
+low-cmd cmd.Data = refl
+low-cmd cmd.Unknown = refl
+
+pub low-reset : (x : ResetSrc) → low (resetCode x) ≡ resetCode x
+low-reset reset.Cleared = refl
+low-reset reset.Analog = refl
+low-reset reset.External = refl
+low-reset reset.Watchdog = refl
+low-reset reset.Iocd = refl
+low-reset reset.Rtc = refl
+low-reset reset.Unknown = refl
+
+pub low-mode : (x : ChipModeStatus) → low (modeCode x) ≡ modeCode x
+low-mode mode.Sleep = refl
+low-mode mode.Rc = refl
+low-mode mode.Xosc = refl
+low-mode mode.Fs = refl
+low-mode mode.Rx = refl
+low-mode mode.Tx = refl
+low-mode mode.Unknown = refl
+
+-- ---- frames
+
+low-small : (n : ℕ) → n ≤ 39 → low n ≡ n
+low-small n h = omega arith
+
+-- what the decoder hands over
+pub record WholeRead (d : Decoded) : Type 0 where
+  pub place : decodedC d .place ≡ whereRead (d .answer)
+  pub kind : decodedC d .kind ≡ kindRead (d .answer)
+  pub count : decodedC d .count ≡ d .count
+
+pub decoded-whole : (f : List ℕ) → WholeRead (decoded (decode f))
+unfolding decoded
+decoded-whole f = by (decode f) refl (decode-place f)
+  where
+    by : (x : Reading) → decode f ≡ x → placeIn x ≤ 12 → WholeRead (decoded x)
+    by (reading k vs) e h =
+        record { place = refl; kind = low-small k (decode-kind f k vs e .1); count = low-small (length vs) (omega (arith, decode-few f k vs e)) }
+    by (refuses x) e h = record { place = low-small (placeOf x) (omega arith); kind = refl; count = refl }
+
+-- what a builder hands over
+pub record WholeFrame (b : Built) : Type 0 where
+  pub place : frameC b .place ≡ whereFrame (b .verdict)
+  pub len : frameC b .len ≡ longFrame (b .verdict)
+
+built-whole : (m : Making) → Within m → WholeFrame (built m)
+unfolding built
+built-whole (makes f) w = record { place = refl; len = low-small (length f) (omega (arith, w .long)) }
+built-whole (builder.refuses x) w = record { place = low-small (placeOf x) (omega (arith, w .place)); len = refl }
+
+pub checked-whole : (k : ℕ) (vs : List ℕ) → WholeFrame (built (checked k vs))
+checked-whole k vs = built-whole (checked k vs) (checked-within k vs)
+
+pub plain-whole : (k : ℕ) (vs : List ℕ) → WholeFrame (built (plainBy k vs))
+plain-whole k vs = built-whole (plainBy k vs) (plain-within k vs)
+
+-- ---- the book: the place of an answer is the decoder's, or 0
+
+abbrev Near : Contents → Type 0
+Near (refused x) = placeOf x ≤ 12
+Near (holds fs) = 0 ≤ 12
+
+given-near : (t : Bool) (x : Refusal) (c : Contents) → placeOf x ≤ 12 → Near c → Near (given t x c)
+given-near true x c h n = n
+given-near false x c h n = h
+
+frames-near : (m c : ℕ) (b : List ℕ) (p e : ℕ) → Near (framesFrom m c b p e)
+unfolding framesFrom
+frames-near m zero b p e = given-near (eqb p e) NotWellFormed (holds []) (omega arith) (omega arith)
+frames-near m (suc c) b p e = by (eqb (lengthAt m b p e) 0) (framesFrom m c b (p + lengthAt m b p e) e) (frames-near m c b (p + lengthAt m b p e) e)
+  where
+    by : (t : Bool) (r : Contents) → Near r → Near (cond t (refused NotWellFormed) (before (take (lengthAt m b p e) (drop p b)) r))
+    by true r n = omega arith
+    by false (refused x) n = n
+    by false (holds fs) n = omega arith
+
+opened-near : (b : List ℕ) → Near (opened ours b)
+unfolding opened judge
+opened-near b =
+    given-near (leb (start (ours .slots)) (length b)) BufferSize _ (omega arith)
+    (given-near (leb (length b) longest) BufferSize _ (omega arith)
+    (given-near (eqb (getD b 0 0) (ours .version)) NotWellFormed _ (omega arith)
+    (given-near (leb (start (ours .slots)) (wordAt b 2)) NotWellFormed _ (omega arith)
+    (given-near (leb (wordAt b 2) (length b)) NotWellFormed _ (omega arith)
+    (given-near (eqb (presentFrom (ours .slots) b 0) (getD b 1 0)) NotWellFormed _ (omega arith)
+    (given-near (allZero (drop (wordAt b 2) b)) NotWellFormed _ (omega arith)
+    (frames-near (ours .slots) (getD b 1 0) b (start (ours .slots)) (wordAt b 2))))))))
+
+-- of every call, where its own refusals are near
+call-near : (s : List ℕ → ℕ → List (List ℕ) → Turn) (o b : List ℕ) → ((o : List ℕ) (room : ℕ) (fs : List (List ℕ)) → spot (s o room fs .answer) ≤ 12) → spot (call ours s o b .answer) ≤ 12
+unfolding call
+call-near s o b h = by (opened ours b) (opened-near b)
+  where
+    by : (c : Contents) → Near c → spot (onContents ours s o b c .answer) ≤ 12
+    by (refused x) n = n
+    by (holds fs) n = h o (roomOf ours (length b)) fs
+
+put-near : (f o : List ℕ) (room : ℕ) (fs : List (List ℕ)) → spot (putOn f o room fs .answer) ≤ 12
+unfolding putOn
+put-near f o room fs = by (ltb (slotOf f) settings) (leb (length (flat (placed f fs))) room) (decode f) (decode-place f)
+  where
+    by : (a b : Bool) (x : Reading) → placeIn x ≤ 12 → spot (cond a (cond b (become o (placed f fs)) (refuse NoRoom o fs)) (refuse (lacks x) o fs) .answer) ≤ 12
+    by true true x h = omega arith
+    by true false x h = omega arith
+    by false b (reading k vs) h = omega arith
+    by false b (refuses x) h = h
+
+pub put-whole : (f b : List ℕ) → answerC (call ours (putOn f) [] b .answer) .place ≡ spot (call ours (putOn f) [] b .answer)
+put-whole f b = low-small _ (omega (arith, call-near (putOn f) [] b (put-near f)))

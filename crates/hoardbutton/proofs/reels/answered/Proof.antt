@@ -1,0 +1,12 @@
+use borrow.Author.Needs.{needs}
+use Rattle.hoardbutton.proofs.reels.answered.Statement.{statement}
+use Rattle.hoardbutton.proofs.reels.answered.Tie as tie
+
+returns : tie.Need-returns
+returns c = cc
+
+returns-2 : tie.Need-returns-2
+returns-2 c = cc
+
+pub answered-spec : {M : Type 1} → statement M
+answered-spec = tie.close (tie.spec (λ c. search needs) (λ c. search needs) (λ c κs. search needs) returns returns-2)

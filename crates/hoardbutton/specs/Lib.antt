@@ -1,0 +1,5 @@
+pub mod Frames
+pub mod Books
+pub mod Radio
+pub mod Readings
+pub mod Reels

@@ -1,0 +1,19 @@
+-- A step of a reel, and the answer of a dump, as C has them.
+-- Assumes nothing.
+use Rattle.refusal.specs.Numbers.{numberOf}
+use Rattle.reel.specs.declared.Step.{Step}
+use Rattle.reel.specs.declared.Step.the-variants.{Frame, End, Refused}
+use Rattle.dump_text.specs.declared.Dumped.{Dumped}
+use Rattle.dump_text.specs.declared.Dumped.the-variants.{Text}
+use Rattle.dump_text.specs.declared.Dumped.the-variants as dump
+use Rattle.hoardbutton.specs.declared.books.HbAnswer.{HbAnswer}
+use Rattle.hoardbutton.specs.declared.reels.HbStep.{HbStep}
+
+abbrev pub stepC : Step → HbStep
+stepC (Frame start end next) = record { refusal = 0; ended = 0; start = start; end = end; next = next .at }
+stepC End = record { refusal = 0; ended = 1; start = 0; end = 0; next = 0 }
+stepC (Refused x) = record { refusal = numberOf x; ended = 0; start = 0; end = 0; next = 0 }
+
+abbrev pub dumpC : Dumped → HbAnswer
+dumpC (Text n) = record { refusal = 0; place = 0; value = n }
+dumpC (dump.Refused x) = record { refusal = numberOf x; place = 0; value = 0 }

@@ -1,0 +1,95 @@
+// The settings book over a lent buffer.
+ghost use mathlib.Core.Path.{_≡_};
+ghost use mathlib.Core.List.{[]};
+ghost use Rattle.book.specs.Plain.{putOn, removeOn, askOn, clearOn, replayOn};
+ghost use Rattle.book.specs.Book.{ours, call, made};
+ghost use Rattle.hoardbutton.specs.Books.{why, spot, value, answerC, Leaves, Writes};
+use crate::frames::low;
+use book::Answer;
+
+// Done, with the bytes written where a call writes; or a refusal with its place.
+#[repr(C)]
+pub struct HbAnswer {
+    pub refusal: u32,
+    pub place: u32,
+    pub value: u64,
+}
+
+fn why(a: Answer) -> u32
+    ensures { λ r. ⌜ r ≡ why a ⌝ }
+{
+    match a {
+        Answer::Done(_) => 0,
+        Answer::Refused(x) => x.number(),
+    }
+}
+
+fn spot(a: Answer) -> u64
+    ensures { λ r. ⌜ r ≡ spot a ⌝ }
+{
+    match a {
+        Answer::Done(_) => 0,
+        Answer::Refused(x) => x.place() as u64,
+    }
+}
+
+fn value(a: Answer) -> u64
+    ensures { λ r. ⌜ r ≡ value a ⌝ }
+{
+    match a {
+        Answer::Done(n) => n as u64,
+        Answer::Refused(_) => 0,
+    }
+}
+
+fn answered(a: Answer) -> HbAnswer
+    ensures { λ r. ⌜ r ≡ answerC a ⌝ }
+{
+    HbAnswer {
+        refusal: why(a),
+        place: low(spot(a)),
+        value: value(a),
+    }
+}
+
+#[no_mangle]
+pub extern "C" fn hb_book_make(book: &mut [u8]) -> HbAnswer
+    ensures { λ r. ⌜ Leaves (made ours (now (book .entry))) r (now (book .exit)) ⌝ }
+{
+    answered(book::make(book))
+}
+
+#[no_mangle]
+pub extern "C" fn hb_book_put(book: &mut [u8], frame: &[u8]) -> HbAnswer
+    ensures { λ r. ⌜ Leaves (call ours (putOn (now (frame .entry))) [] (now (book .entry))) r (now (book .exit)) ⌝ }
+{
+    answered(book::put(book, frame))
+}
+
+#[no_mangle]
+pub extern "C" fn hb_book_remove(book: &mut [u8], kind: u64) -> HbAnswer
+    ensures { λ r. ⌜ Leaves (call ours (removeOn kind) [] (now (book .entry))) r (now (book .exit)) ⌝ }
+{
+    answered(book::remove(book, kind))
+}
+
+#[no_mangle]
+pub extern "C" fn hb_book_ask(book: &[u8], kind: u64, out: &mut [u8]) -> HbAnswer
+    ensures { λ r. ⌜ Writes (call ours (askOn kind) (now (out .entry)) (now (book .entry))) r (now (out .exit)) ⌝ }
+{
+    answered(book::ask(book, kind, out))
+}
+
+#[no_mangle]
+pub extern "C" fn hb_book_clear(book: &mut [u8]) -> HbAnswer
+    ensures { λ r. ⌜ Leaves (call ours clearOn [] (now (book .entry))) r (now (book .exit)) ⌝ }
+{
+    answered(book::clear(book))
+}
+
+#[no_mangle]
+pub extern "C" fn hb_book_replay(book: &[u8], out: &mut [u8]) -> HbAnswer
+    ensures { λ r. ⌜ Writes (call ours replayOn (now (out .entry)) (now (book .entry))) r (now (out .exit)) ⌝ }
+{
+    answered(book::replay(book, out))
+}

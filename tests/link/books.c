@@ -1,0 +1,256 @@
+/* The settings book, against a plain list: after every call the whole buffer has to be what document 01's layout makes of the list. */
+#include "link.h"
+
+typedef struct {
+    uint64_t kind;
+    size_t len;
+    uint8_t bytes[12];
+} held;
+
+static held list[30];
+static size_t count, size;
+static uint8_t book[4097];
+
+/* A setting's slot; -1 for an action and for what is no kind. */
+static int slot(uint64_t kind) {
+    static const uint8_t actions[] = {8, 9, 10, 22, 23, 29, 30, 32, 36, 37};
+    int below = 0;
+    for (size_t i = 0; i < sizeof actions; i++) {
+        if (actions[i] == kind) return -1;
+        below += actions[i] < kind;
+    }
+    return kind < 1 || kind > KINDS ? -1 : (int)kind - 1 - below;
+}
+
+static size_t found(uint64_t kind) {
+    size_t at = 0;
+    while (at < count && list[at].kind != kind) at++;
+    return at;
+}
+
+static size_t end_of(void) {
+    size_t end = 62;
+    for (size_t i = 0; i < count; i++) end += list[i].len;
+    return end;
+}
+
+static void is_the_list(void) {
+    uint8_t wanted[4096] = {1, count, end_of() >> 8, end_of()};
+    size_t at = 62;
+    for (size_t i = 0; i < count; at += list[i++].len) {
+        wanted[4 + 2 * slot(list[i].kind)] = at >> 8;
+        wanted[5 + 2 * slot(list[i].kind)] = at;
+        memcpy(wanted + at, list[i].bytes, list[i].len);
+    }
+    same_bytes(book, wanted, size, size);
+}
+
+/* A call that may alter the book, on a buffer lent for it: make, put, remove, clear. */
+static hb_answer change(char which, uint64_t kind, const uint8_t *frame, size_t len) {
+    uint8_t *b = memcpy(lend(size), book, size);
+    const uint8_t *f = which == 'p' ? lend_const(frame, len) : NULL;
+    hb_answer a = which == 'm' ? hb_book_make(b, size) : which == 'p' ? hb_book_put(b, size, f, len)
+        : which == 'r' ? hb_book_remove(b, size, kind) : hb_book_clear(b, size);
+    memcpy(book, b, size);
+    lent -= which == 'p' ? 2 : 1;
+    return a;
+}
+
+/* Ask for a kind, or replay for kind 0, into outputs that are null, too short by one, exact, and longer. */
+static void reads(uint64_t kind, uint32_t refusal, const uint8_t *wanted, size_t len) {
+    const size_t rooms[] = {0, len ? len - 1 : 0, len, len + 7};
+    for (size_t i = 0; i < 4; i++) {
+        size_t room = rooms[i];
+        uint32_t why = refusal ? refusal : room < len ? 12 : 0;
+        const uint8_t *b = lend_const(book, size);
+        uint8_t *out = room ? lend(room) : NULL;
+        trying(kind ? "hb_book_ask" : "hb_book_replay", "kind", kind);
+        same_answer(kind ? hb_book_ask(b, size, kind, out, room) : hb_book_replay(b, size, out, room), why, 0, why ? 0 : len);
+        same_bytes(out, wanted, why ? 0 : len, room);
+        lent -= room ? 2 : 1;
+    }
+}
+
+/* The calls as the list has them. */
+static void make(size_t n) {
+    size = n;
+    count = 0;
+    memset(book, FILL, sizeof book);
+    trying("hb_book_make", "size", n);
+    same_answer(change('m', 0, NULL, 0), 0, 0, 0);
+    is_the_list();
+}
+
+static void put(uint64_t kind, const char *frame) {
+    held h = {kind, 0, {0}};
+    size_t at = found(kind);
+    h.len = hex(frame, h.bytes);
+    trying("hb_book_put", frame, size);
+    uint32_t refusal = slot(kind) < 0 ? 13 : at == count && end_of() + h.len > size ? 8 : 0;
+    same_answer(change('p', 0, h.bytes, h.len), refusal, 0, 0);
+    if (!refusal) list[at] = h;
+    if (!refusal && at == count) count++;
+    is_the_list();
+}
+
+static uint32_t lacks(uint64_t kind) {
+    return slot(kind) < 0 ? 13 : found(kind) == count ? 9 : 0;
+}
+
+static void take_out(uint64_t kind) {
+    uint32_t refusal = lacks(kind);
+    trying("hb_book_remove", "kind", kind);
+    same_answer(change('r', kind, NULL, 0), refusal, 0, 0);
+    if (!refusal) count--;
+    for (size_t at = found(kind); !refusal && at < count; at++) list[at] = list[at + 1];
+    is_the_list();
+}
+
+static void ask(uint64_t kind) {
+    reads(kind, lacks(kind), list[found(kind)].bytes, lacks(kind) ? 0 : list[found(kind)].len);
+}
+
+/* The replay is the list as a reel: its bytes, and what hb_reel_step, hb_decode and hb_dump read in it. */
+static void replay(void) {
+    uint8_t reel[400], *text = lend(4096);
+    size_t len = 0, lines = 0;
+    uint64_t at = 0;
+    for (size_t i = 0; i < count; len += list[i++].len + 1) {
+        reel[len] = list[i].len;
+        memcpy(reel + len + 1, list[i].bytes, list[i].len);
+    }
+    reads(0, 0, reel, len);
+    for (size_t i = 0; i < count; i++) {
+        hb_step s = hb_reel_step(reel, len, at);
+        same("kind in the replay", hb_decode(reel + s.start, s.end - s.start).kind, list[i].kind);
+        at = s.next;
+    }
+    same("end of the replay", hb_reel_step(reel, len, at).ended, 1);
+    hb_answer a = hb_dump(reel, len, text, 4096);
+    for (size_t i = 0; i < a.value; i++) lines += text[i] == '\n';
+    same("lines of the replay", lines, count);
+    lent--;
+}
+
+static void history(size_t n) {
+    make(n);
+    for (unsigned i = 0; i < 400; i++) {
+        const row *r = &rows[any() % KINDS];
+        uint64_t way = any() % 64;
+        if (way < 40) put(r->kind, way % 2 ? r->frame : r->other);
+        else if (way < 52) take_out(r->kind);
+        else if (way < 59) ask(r->kind);
+        else if (way < 63) replay();
+        else {
+            count = 0;
+            trying("hb_book_clear", "size", n);
+            same_answer(change('c', 0, NULL, 0), 0, 0, 0);
+            is_the_list();
+        }
+    }
+}
+
+/* Document 01's books; all 29 settings take 246 bytes; a full book takes an overwrite; what is put again stands at the end. */
+static void examples(void) {
+    make(62);
+    replay();
+    put(4, "02 23 34");
+    same("count, for there is no room", book[1], 0);
+    make(65);
+    put(4, "02 23 34");
+    same("byte 1", book[1], 1);
+    same("bytes 2-3", book[2] << 8 | book[3], 0x41);
+    same("bytes 10-11", book[10] << 8 | book[11], 0x3E);
+    make(246);
+    for (size_t i = KINDS; i-- > 0;) put(rows[i].kind, rows[i].frame);
+    same("count", book[1], 29);
+    for (size_t i = 0; i < KINDS; i++) put(rows[i].kind, rows[i].other);
+    take_out(39);
+    put(39, rows[38].frame);
+    same("offset of kind 39", book[60] << 8 | book[61], 236);
+    replay();
+}
+
+/* Every call but make is refused, whatever else is wrong with it, and alters nothing. */
+static void refuses_all(uint32_t refusal) {
+    uint8_t before[4097];
+    memcpy(before, book, size);
+    same_answer(change('p', 0, (const uint8_t *)"\x02", 1), refusal, 0, 0);
+    same_answer(change('p', 0, (const uint8_t *)"\x02\x23\x34", 3), refusal, 0, 0);
+    same_answer(change('r', 4, NULL, 0), refusal, 0, 0);
+    same_answer(change('r', 0, NULL, 0), refusal, 0, 0);
+    same_answer(change('c', 0, NULL, 0), refusal, 0, 0);
+    same_bytes(book, before, size, size);
+    for (uint64_t kind = 0; kind <= 8; kind += 4) reads(kind, refusal, NULL, 0);
+}
+
+static void sizes(void) {
+    const size_t bad[] = {0, 1, 61, 4097};
+    for (size_t i = 0; i < 4; i++) {
+        make(62); /* so that nothing but the size is wrong */
+        size = bad[i];
+        trying("a book of a bad size", "size", size);
+        same_answer(change('m', 0, NULL, 0), 11, 0, 0);
+        refuses_all(11);
+    }
+    trying("a book that is null", "", 0);
+    same_answer(hb_book_make(NULL, 0), 11, 0, 0);
+    same_answer(hb_book_put(NULL, 0, NULL, 0), 11, 0, 0);
+    same_answer(hb_book_remove(NULL, 0, 4), 11, 0, 0);
+    same_answer(hb_book_ask(NULL, 0, 4, NULL, 0), 11, 0, 0);
+    same_answer(hb_book_clear(NULL, 0), 11, 0, 0);
+    same_answer(hb_book_replay(NULL, 0, NULL, 0), 11, 0, 0);
+}
+
+/* A book with kinds 4 and 25 at 62 and 65, and one byte of it changed: version, count, end, offsets, frames, tail. */
+static void tampered(void) {
+    static const uint8_t bytes[][2] = {{0, 0}, {0, 2}, {1, 0}, {1, 1}, {1, 3}, {2, 1}, {2, 255}, {3, 61}, {3, 67}, {3, 69}, {5, 62}, {10, 1},
+        {11, 0}, {11, 1}, {11, 65}, {43, 0}, {43, 62}, {43, 66}, {61, 255}, {62, 3}, {63, 0x28}, {66, 15}, {67, 2}, {68, 1}, {79, 128}};
+    for (size_t i = 0; i < sizeof bytes / 2; i++) {
+        make(80);
+        put(4, "02 23 34");
+        put(25, "02 01 00");
+        book[bytes[i][0]] = bytes[i][1];
+        trying("a book not well formed", "byte", bytes[i][0]);
+        refuses_all(10);
+        same_answer(change('m', 0, NULL, 0), 0, 0, 0);
+        count = 0;
+        is_the_list();
+    }
+}
+
+/* Frames and kinds that a good book refuses. */
+static void refused(void) {
+    static const struct {
+        const char *frame;
+        uint32_t refusal, place;
+    } frames[] = {{"", 1, 0}, {"02", 1, 0}, {"03 23 34", 2, 0}, {"02 23", 3, 0}, {"02 22 00 80", 4, 3}, {"02 20 40 10", 5, 2},
+        {"02 10 00 00 00 00 00 00 08", 4, 8}, {"02 0C", 3, 0}, {"02 28", 13, 0}, {"02 0C 00 00 00", 13, 0}};
+    const uint64_t kinds[] = {1, 8, 37, 40, 255, 260, ((uint64_t)1 << 32) + 4, UINT64_MAX};
+    make(65);
+    put(4, "02 23 34");
+    for (size_t i = 0; i < sizeof frames / sizeof *frames; i++) {
+        uint8_t bytes[16];
+        trying("hb_book_put", frames[i].frame, 0);
+        same_answer(change('p', 0, bytes, hex(frames[i].frame, bytes)), frames[i].refusal, frames[i].place, 0);
+        is_the_list();
+    }
+    for (size_t i = 0; i < sizeof kinds / sizeof *kinds; i++) {
+        take_out(kinds[i]);
+        ask(kinds[i]);
+    }
+    take_out(0);
+    trying("ask of kind 0; put of null", "", 0);
+    same_answer(hb_book_ask(book, size, 0, NULL, 0), 13, 0, 0);
+    same_answer(hb_book_put(book, size, NULL, 0), 1, 0, 0);
+    is_the_list();
+}
+
+void test_books(void) {
+    const size_t good[] = {62, 63, 65, 100, 231, 232, 245, 246, 4095, 4096};
+    examples();
+    sizes();
+    tampered();
+    refused();
+    for (size_t i = 0; i < sizeof good / sizeof *good; i++) history(good[i]);
+}

@@ -1,0 +1,45 @@
+/* What the link tests share: lent buffers, checks, and a table of good calls. */
+#include <stdio.h>
+#include <string.h>
+
+#include "hoardbutton.h"
+
+/* A buffer of n bytes, each FILL, where the run's mode puts it; and one to be read only, with these bytes. `lent` counts the buffers that
+ * are out: a test that sets it back gives the later ones back. */
+enum { FILL = 0xA5 };
+extern unsigned lent;
+uint8_t *lend(size_t n);
+const void *lend_const(const void *from, size_t n);
+
+/* What is tried from here on: a failed check and a crash name it. */
+void trying(const char *call, const char *input, uint64_t number);
+
+/* Checks. Bytes behind n up to `whole` have to be FILL still. A frame is given as its text. */
+void same(const char *what, uint64_t got, uint64_t wanted);
+void same_bytes(const uint8_t *got, const void *wanted, size_t n, size_t whole);
+void same_answer(hb_answer got, uint32_t refusal, uint32_t place, uint64_t value);
+void same_frame(hb_frame got, const char *frame, uint32_t refusal, uint32_t place);
+
+/* A random number; the seed is fixed, so every run is the same. */
+uint64_t any(void);
+
+/* The bytes of a text as 02 2A, the numbers of a text as 7 12; and how many there are. */
+size_t hex(const char *text, uint8_t *to);
+size_t numbers(const char *text, uint64_t *to);
+
+/* A good call of each kind, the frame that document 01's table gives, and another frame of that kind, all ones where it may be. */
+enum { KINDS = 39 };
+typedef struct {
+    uint64_t kind;
+    const char *args, *frame, *other;
+} row;
+extern const row rows[KINDS];
+
+/* A builder of frames, hb_checked or hb_plain: what it makes of the numbers of a text; of each row; and of a row with too few or too many. */
+typedef hb_frame builder(uint64_t kind, const uint64_t *args, size_t n);
+void builds(builder *build, uint64_t kind, const char *args, const char *frame, uint32_t refusal, uint32_t place);
+void builds_rows(builder *build);
+
+void test_frames(void), test_books(void), test_radio(void), test_readings(void), test_reels(void), test_rust(void);
+/* The tests of hb_plain: those of C call those of Rust. */
+void test_plain(void), test_rust_plain(void);
