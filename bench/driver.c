@@ -1,5 +1,6 @@
 // Calls the port (hb_..) and the Rust (rs_..) on the same arguments in one process, checks that both answer the same, and prints for each
-// function the ratio of their times: the median over REPEATS, and the least and the greatest. bench/generate.py fills the gaps.
+// function the ratio of their times: the median over REPEATS, and the least and the greatest. bench/generate.py fills the gaps, and
+// bench/book.c has the book.
 typedef unsigned char u8;
 typedef unsigned long u64;
 typedef struct { long sec, nsec; } timespec;
@@ -21,9 +22,10 @@ static u64 next(void) {
     return z ^ (z >> 31);
 }
 
+// The process's own time, so that other work on the machine shows less.
 static double now(void) {
     timespec t;
-    clock_gettime(1, &t);
+    clock_gettime(2, &t);
     return t.sec * 1e9 + t.nsec;
 }
 
@@ -115,6 +117,8 @@ static void decoders(double *ratios) {
     report("decode, frames of all kinds in turn", ratios, hb, rs);
 }
 
+#include "../../bench/book.c"
+
 int main(void) {
     double ratios[REPEATS];
     for (int i = 0; i < SETS + BYTES; i++) bytes[i] = next();
@@ -148,5 +152,6 @@ int main(void) {
         report(g->name, ratios, hb, rs);
     }
     decoders(ratios);
+    books();
     return 0;
 }

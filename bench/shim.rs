@@ -113,4 +113,44 @@ pub unsafe extern "C" fn rs_decode(p: *const u8, n: usize) -> u64 {
     mix
 }
 
+// ---- the book, beside one written by hand
+
+#[path = "../../bench/book.rs"]
+mod book;
+
+// The number of bytes written, or 65,536 with the refusal and its place.
+fn told(said: book::Answer) -> u64 {
+    match said {
+        Ok(written) => written as u64,
+        Err((number, place)) => 65536 | number as u64 | (place as u64) << 8,
+    }
+}
+
+use core::slice::{from_raw_parts, from_raw_parts_mut};
+
+#[no_mangle]
+pub unsafe extern "C" fn rs_make(book: *mut u8, n: usize) -> u64 {
+    told(book::make(from_raw_parts_mut(book, n)))
+}
+
+#[no_mangle]
+pub unsafe extern "C" fn rs_put(book: *mut u8, n: usize, frame: *const u8, m: usize) -> u64 {
+    told(book::put(from_raw_parts_mut(book, n), from_raw_parts(frame, m)))
+}
+
+#[no_mangle]
+pub unsafe extern "C" fn rs_remove(book: *mut u8, n: usize, kind: u64) -> u64 {
+    told(book::remove(from_raw_parts_mut(book, n), kind))
+}
+
+#[no_mangle]
+pub unsafe extern "C" fn rs_ask(book: *const u8, n: usize, kind: u64, out: *mut u8, m: usize) -> u64 {
+    told(book::ask(from_raw_parts(book, n), kind, from_raw_parts_mut(out, m)))
+}
+
+#[no_mangle]
+pub unsafe extern "C" fn rs_replay(book: *const u8, n: usize, out: *mut u8, m: usize) -> u64 {
+    told(book::replay(from_raw_parts(book, n), from_raw_parts_mut(out, m)))
+}
+
 // ---- builders

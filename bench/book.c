@@ -1,0 +1,133 @@
+// The book, ours beside Rust's: each call on many books that were made before the clock starts.
+enum { ROOM = 300, SETTINGS = 29, POOL = 16, REPLAY = 256 };
+
+static const int settings[SETTINGS] = {1, 2, 3, 4, 5, 6, 7, 11, 12, 13, 14, 15, 16, 17, 18, 19, 20, 21, 24, 25, 26, 27, 28, 31, 33, 34, 35,
+    38, 39};
+typedef struct { u8 bytes[12]; int size; } frame;
+static frame pool[SETTINGS][POOL];
+
+// The books before and in a call, the frame that a put gets, and the kind that the others get.
+static u8 before[SETS][ROOM], book[SETS][ROOM], lent[REPLAY];
+static frame given_frame[SETS];
+static u64 given_kind[SETS];
+// The one book that is only asked, and its length.
+static u8 empty[4096];
+static u64 empty_length;
+
+typedef u64 (*on_book)(int);
+#define SIDE(s) \
+    u64 s##_make(u8 *, u64), s##_put(u8 *, u64, const u8 *, u64), s##_remove(u8 *, u64, u64); \
+    u64 s##_ask(const u8 *, u64, u64, u8 *, u64), s##_replay(const u8 *, u64, u8 *, u64); \
+    static u64 s##_puts(int i) { return s##_put(book[i], ROOM, given_frame[i].bytes, given_frame[i].size); } \
+    static u64 s##_removes(int i) { return s##_remove(book[i], ROOM, given_kind[i]); } \
+    static u64 s##_asks(int i) { return s##_ask(book[i], ROOM, given_kind[i], lent, 12); } \
+    static u64 s##_replays(int i) { return s##_replay(book[i], ROOM, lent, REPLAY); } \
+    static u64 s##_asks_empty(int i) { return s##_ask(empty, empty_length, 1 + i % 7, lent, 12); }
+SIDE(hb)
+SIDE(rs)
+
+static void copy(u8 *to, const u8 *from, int n) { for (int i = 0; i < n; i++) to[i] = from[i]; }
+
+// Frames that the book takes: a builder's own may be refused, as it masks what the decoder narrows.
+static void make_pool(void) {
+    u8 scratch[ROOM];
+    for (int s = 0; s < SETTINGS; s++) {
+        const builder *b = &builders[settings[s] - 1];
+        for (int i = 0; i < POOL; i++) {
+            do {
+                fill(b);
+                b->rs();
+                rs_make(scratch, ROOM);
+            } while (rs_put(scratch, ROOM, out, b->size) != 0);
+            copy(pool[s][i].bytes, out, b->size);
+            pool[s][i].size = b->size;
+        }
+    }
+}
+
+// Books of n frames in random order. Where the last is to be new, it is not in the book yet; else it is another frame of one that is.
+static void make_books(int n, int is_new) {
+    for (int i = 0; i < SETS; i++) {
+        int order[SETTINGS];
+        for (int j = 0; j < SETTINGS; j++) {
+            int k = next() % (j + 1);
+            order[j] = order[k];
+            order[k] = j;
+        }
+        rs_make(before[i], ROOM);
+        for (int j = 0; j < n - is_new; j++) {
+            const frame *f = &pool[order[j]][next() % POOL];
+            rs_put(before[i], ROOM, f->bytes, f->size);
+        }
+        int last = order[is_new ? n - 1 : (int)(next() % n)];
+        given_frame[i] = pool[last][next() % POOL];
+        given_kind[i] = settings[last];
+    }
+}
+
+// Only the calls are timed; the books are put back between the rounds.
+static double timed_book(on_book f) {
+    double t = 0;
+    u64 s = 0;
+    for (int r = 0; r < ROUNDS; r++) {
+        copy(book[0], before[0], sizeof book);
+        double from = now();
+        for (int i = 0; i < SETS; i++) s += f(i);
+        t += now() - from;
+    }
+    sum += s;
+    return t;
+}
+
+static void same(const char *name, on_book hb, on_book rs) {
+    static u8 seen[SETS][ROOM], seen_lent[REPLAY];
+    for (int i = 0; i < SETS; i++) {
+        for (int j = 0; j < REPLAY; j++) lent[j] = j;
+        copy(book[i], before[i], ROOM);
+        u64 x = hb(i);
+        copy(seen[i], book[i], ROOM), copy(seen_lent, lent, REPLAY);
+        for (int j = 0; j < REPLAY; j++) lent[j] = j;
+        copy(book[i], before[i], ROOM);
+        int differs = rs(i) != x;
+        for (int j = 0; j < ROOM; j++) differs |= seen[i][j] != book[i][j];
+        for (int j = 0; j < REPLAY; j++) differs |= seen_lent[j] != lent[j];
+        if (differs) { printf("%s differs at %d\n", name, i); return; }
+    }
+}
+
+static void compare(const char *name, on_book f, on_book g) {
+    double ratios[REPEATS], hb = 1e18, rs = 1e18;
+    same(name, f, g);
+    for (int r = 0; r < REPEATS; r++) {
+        double x = timed_book(f), y = timed_book(g);
+        ratios[r] = x / y;
+        if (x < hb) hb = x;
+        if (y < rs) rs = y;
+    }
+    report(name, ratios, hb, rs);
+}
+
+// All that such an ask does is to judge the book.
+static void asked_empty(const char *name, u64 length) {
+    empty_length = length;
+    rs_make(empty, length);
+    compare(name, hb_asks_empty, rs_asks_empty);
+}
+
+static void books(void) {
+    make_pool();
+    make_books(5, 1), compare("book of 4, put a 5th", hb_puts, rs_puts);
+    make_books(5, 0), compare("book of 5, put over", hb_puts, rs_puts);
+    compare("book of 5, remove", hb_removes, rs_removes);
+    compare("book of 5, ask", hb_asks, rs_asks);
+    compare("book of 5, replay", hb_replays, rs_replays);
+    make_books(29, 1), compare("book of 28, put a 29th", hb_puts, rs_puts);
+    make_books(29, 0), compare("book of 29, put over", hb_puts, rs_puts);
+    compare("book of 29, remove", hb_removes, rs_removes);
+    compare("book of 29, ask", hb_asks, rs_asks);
+    compare("book of 29, replay", hb_replays, rs_replays);
+    asked_empty("empty book of 62 bytes, ask", 62);
+    asked_empty("empty book of 1024 bytes, ask", 1024);
+    asked_empty("empty book of 2048 bytes, ask", 2048);
+    asked_empty("empty book of 4096 bytes, ask", 4096);
+}

@@ -1,0 +1,172 @@
+// The settings book in the Rust that one would write by hand from document 01: a lent buffer, judged whole at each call. bench/run compares
+// the port's book with it.
+use crate::decoder::decode;
+
+// A refusal's number and place.
+pub type Refusal = (u8, u8);
+pub type Answer = Result<usize, Refusal>;
+
+const START: usize = 62;
+const LONGEST: usize = 4096;
+const NOT_WELL_FORMED: Refusal = (10, 0);
+
+// The kind of each slot, and the length of its frames.
+const SETTINGS: [(u8, u8); 29] = [
+    (1, 4), (2, 6), (3, 4), (4, 3), (5, 8), (6, 12), (7, 9), (11, 11), (12, 4), (13, 8), (14, 3), (15, 4), (16, 11), (17, 9), (18, 4),
+    (19, 10), (20, 11), (21, 4), (24, 6), (25, 3), (26, 4), (27, 4), (28, 5), (31, 3), (33, 10), (34, 8), (35, 3), (38, 3), (39, 10),
+];
+
+const SLOTS: [u8; 40] = {
+    let mut slots = [255; 40];
+    let mut slot = 0;
+    while slot < 29 {
+        slots[SETTINGS[slot].0 as usize] = slot as u8;
+        slot += 1;
+    }
+    slots
+};
+
+fn slot_of(kind: u64) -> Result<usize, Refusal> {
+    match SLOTS.get(kind as usize) {
+        Some(slot) if *slot != 255 => Ok(*slot as usize),
+        _ => Err((13, 0)),
+    }
+}
+
+fn word(book: &[u8], at: usize) -> usize {
+    u16::from_be_bytes([book[at], book[at + 1]]) as usize
+}
+
+fn set_word(book: &mut [u8], at: usize, value: usize) {
+    book[at..at + 2].copy_from_slice(&(value as u16).to_be_bytes());
+}
+
+// A book that is well formed: where its frames end, and the offset and slot of each, in order.
+struct Sound {
+    end: usize,
+    count: usize,
+    frames: [(u16, u8); 29],
+}
+
+fn judge(book: &[u8]) -> Result<Sound, Refusal> {
+    if book.len() < START || book.len() > LONGEST {
+        return Err((11, 0));
+    }
+    let end = word(book, 2);
+    if book[0] != 1 || end < START || end > book.len() || book[end..].iter().any(|b| *b != 0) {
+        return Err(NOT_WELL_FORMED);
+    }
+    let mut frames = [(0, 0); 29];
+    let mut count = 0;
+    for slot in 0..29 {
+        let offset = word(book, 4 + 2 * slot);
+        if offset != 0 {
+            frames[count] = (offset as u16, slot as u8);
+            count += 1;
+        }
+    }
+    if book[1] as usize != count {
+        return Err(NOT_WELL_FORMED);
+    }
+    frames[..count].sort_unstable();
+    let mut at = START;
+    for (offset, slot) in &frames[..count] {
+        let (kind, length) = SETTINGS[*slot as usize];
+        let next = at + length as usize;
+        if *offset as usize != at || next > end || decode(&book[at..next]).kind != kind {
+            return Err(NOT_WELL_FORMED);
+        }
+        at = next;
+    }
+    if at != end {
+        return Err(NOT_WELL_FORMED);
+    }
+    Ok(Sound { end, count, frames })
+}
+
+fn blank(book: &mut [u8]) {
+    book.fill(0);
+    book[0] = 1;
+    set_word(book, 2, START);
+}
+
+pub fn make(book: &mut [u8]) -> Answer {
+    if book.len() < START || book.len() > LONGEST {
+        return Err((11, 0));
+    }
+    blank(book);
+    Ok(0)
+}
+
+pub fn put(book: &mut [u8], frame: &[u8]) -> Answer {
+    let end = judge(book)?.end;
+    let decoded = decode(frame);
+    if decoded.refusal != 0 {
+        return Err((decoded.refusal, decoded.place));
+    }
+    let slot = slot_of(decoded.kind as u64)?;
+    let at = word(book, 4 + 2 * slot);
+    if at != 0 {
+        book[at..at + frame.len()].copy_from_slice(frame);
+        return Ok(0);
+    }
+    let next = end + frame.len();
+    if next > book.len() {
+        return Err((8, 0));
+    }
+    book[end..next].copy_from_slice(frame);
+    book[1] += 1;
+    set_word(book, 2, next);
+    set_word(book, 4 + 2 * slot, end);
+    Ok(0)
+}
+
+// Where a kind's frame starts and ends.
+fn held(book: &[u8], slot: usize) -> Result<(usize, usize), Refusal> {
+    match word(book, 4 + 2 * slot) {
+        0 => Err((9, 0)),
+        at => Ok((at, at + SETTINGS[slot].1 as usize)),
+    }
+}
+
+pub fn remove(book: &mut [u8], kind: u64) -> Answer {
+    let sound = judge(book)?;
+    let slot = slot_of(kind)?;
+    let (at, next) = held(book, slot)?;
+    let end = sound.end - (next - at);
+    book.copy_within(next..sound.end, at);
+    book[end..sound.end].fill(0);
+    for (offset, slot) in &sound.frames[..sound.count] {
+        if *offset as usize > at {
+            set_word(book, 4 + 2 * *slot as usize, *offset as usize - (next - at));
+        }
+    }
+    set_word(book, 4 + 2 * slot, 0);
+    set_word(book, 2, end);
+    book[1] -= 1;
+    Ok(0)
+}
+
+pub fn ask(book: &[u8], kind: u64, out: &mut [u8]) -> Answer {
+    judge(book)?;
+    let (at, next) = held(book, slot_of(kind)?)?;
+    let frame = &book[at..next];
+    out.get_mut(..frame.len()).ok_or((12, 0))?.copy_from_slice(frame);
+    Ok(frame.len())
+}
+
+pub fn replay(book: &[u8], out: &mut [u8]) -> Answer {
+    let sound = judge(book)?;
+    let total = sound.end - START + sound.count;
+    if total > out.len() {
+        return Err((12, 0));
+    }
+    let mut to = 0;
+    for (offset, slot) in &sound.frames[..sound.count] {
+        let (at, length) = (*offset as usize, SETTINGS[*slot as usize].1 as usize);
+        out[to] = length as u8;
+        out[to + 1..to + 1 + length].copy_from_slice(&book[at..at + length]);
+        to += 1 + length;
+    }
+    Ok(total)
+}
