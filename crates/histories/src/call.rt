@@ -31,7 +31,7 @@ fn poke(book: &mut [u8], at: usize, data: &[u8]) -> Answer {
     Answer::Done(0)
 }
 
-pub fn carried(op: u8, r: &[u8], book: &mut [u8], lent: &mut [u8]) -> Answer
+pub(crate) fn carried(op: u8, r: &[u8], book: &mut [u8], lent: &mut [u8]) -> Answer
     requires { ⌜ 12 ≤ length (now r) ⌝ }
 {
     match op {

@@ -67,20 +67,20 @@ fn number(s: &[u8]) -> u64 {
     n
 }
 
-pub fn size(r: &[u8]) -> usize
+pub(crate) fn size(r: &[u8]) -> usize
     requires { ⌜ 12 ≤ length (now r) ⌝ }
 {
     (number(&r[2..4]) % 65536) as usize
 }
 
-pub fn kind(r: &[u8]) -> u64
+pub(crate) fn kind(r: &[u8]) -> u64
     requires { ⌜ 12 ≤ length (now r) ⌝ }
 {
     number(&r[4..12])
 }
 
 // How long the book's buffer is behind this record, if it has `len` bytes before it and can have `most`.
-pub fn lent_len(r: &[u8], len: usize, most: usize) -> usize
+pub(crate) fn lent_len(r: &[u8], len: usize, most: usize) -> usize
     requires { ⌜ (12 ≤ length (now r)) × (len ≤ most) ⌝ }
     ensures { λ n. ⌜ n ≤ most ⌝ }
 {
@@ -91,7 +91,7 @@ pub fn lent_len(r: &[u8], len: usize, most: usize) -> usize
 }
 
 // How long the output is that a call gets: 0 for a call that writes none.
-pub fn output_len(r: &[u8], most: usize) -> usize
+pub(crate) fn output_len(r: &[u8], most: usize) -> usize
     requires { ⌜ 12 ≤ length (now r) ⌝ }
     ensures { λ n. ⌜ n ≤ most ⌝ }
 {
