@@ -1,20 +1,21 @@
 -- The plain builder by number: a row with ranges in the place of its cells is a row as the checked builder has it. Assumes nothing.
 use mathlib.Core.Path.{_≡_, refl, sym, ap, ap₂, _∙_, subst}
-use mathlib.Core.Bool.{Bool, true, false, cond}
+use mathlib.Core.Bool.{Bool, true, false, cond, _&&_}
 use mathlib.Core.List.{List, [], _∷_, _++_, append-assoc, append-nil}
-use Prim.Native.Nat.{ℕ, zero, suc, _+_, _-_, _*_, _/_, _%_, _≤_, _<_}
+use Prim.Native.Nat.{ℕ, zero, suc, _+_, _-_, _*_, _/_, _%_, _^_, _≤_, _<_}
 use native.Mathlib.Nat.{not-suc-le-zero, le-of-suc-le-suc}
 use native.Mathlib.Numerals.{add-one}
 use native.Mathlib.Omega.{arith}
 use borrow.Author.Tests.{eq-eqb, lt-ltb, le-ltb, le-leb, lt-leb}
-use lib.Dec.{T, eqb}
+use lib.Dec.{T, eqb, ltb}
 use lib.ListN.{length, getD, set, take, drop, replicate, length-append, length-take, length-drop, drop-of-length-le}
 use lib.Seq.{drop-cons, drop-at, getD-take, take-suc-set, take-all, length-take-le}
 use Rattle.frame.specs.declared.Field.{Field}
 use Rattle.frame.specs.Field.{sound}
 use Rattle.frame.specs.Layout.{tab, puts, byteOf, soundAll}
 use Rattle.frame.proofs.Fields.{both-left, both-right, sound-is, length-tab}
-use Rattle.table.specs.Number.{narrowOf, plainOf, narrowsOf, plainsOf}
+use Rattle.table.specs.Number.{narrowOf, plainOf, narrowsOf, plainsOf, codesOf}
+use Rattle.table.specs.Codes.{takes}
 use Rattle.table.specs.Table.{rows, opOf, lenOf, countOf, numbersOf, rowOf, rowAt, opNumber, plainRow}
 use Rattle.table.proofs.Rows.{Laid, row-laid, row-at, plain-is}
 use Rattle.refusal.specs.declared.Refusal.the-variants.{ArgumentOutside, NotAKind}
@@ -22,7 +23,7 @@ use Rattle.codec.specs.Narrowed.{fieldsOf}
 use Rattle.codec.specs.declared.Verdict.the-variants.{Frame}
 use Rattle.codec.specs.declared.Built.{Built}
 use Rattle.codec.specs.Building as builder
-use Rattle.codec.specs.Building.{outside, unless, built}
+use Rattle.codec.specs.Building.{allows, outside, unless, built}
 use Rattle.codec.specs.Typed.{coded, widened, rangeOf, rangesOf, rangedRow, called, plainBy}
 use Rattle.codec.proofs.Steps.{long-numbers}
 use Rattle.codec.proofs.Masks.{padded-frame}
@@ -86,6 +87,9 @@ high a b d h l = omega arith
 middle : (a b d : ℕ) → b < 256 → d < 4096 → (a * 16777216 + b * 65536 + d) / 65536 % 256 ≡ b
 middle a b d h l = let e : (a * 16777216 + b * 65536 + d) / 65536 ≡ a * 256 + b = omega arith in ap (λ (n : ℕ). n % 256) e ∙ omega arith
 
+low-digits : (a b d : ℕ) → d < 4096 → (a * 16777216 + b * 65536 + d) % 4096 ≡ d
+low-digits a b d h = omega arith
+
 module _ (x c : ℕ) (e : x / 16777216 ≡ c / 16777216) where
   same-first : x / 268435456 ≡ c / 268435456
   same-first = omega arith
@@ -109,6 +113,17 @@ narrow-wide c h i =
       w = w i;
       le = ap (λ (n : ℕ). eqb n 1) (same-order (widened c) c top) i;
     }
+
+-- ---- what a range takes: an enum's codes, as far as its field holds them; and any number of 64 bits
+
+pub range-code : (c v : ℕ) → plainOf c .w ≤ 64 → allows (rangeOf c true) v ≡ (ltb v (2 ^ plainOf c .w) && takes (codesOf c) v)
+range-code c v h =
+    let e : codesOf (widened c) ≡ codesOf c = low-digits (c / 16777216) ((c / 65536 % 256 + c / 4096 % 16) % 256) (c % 4096) (omega arith) in
+    ap₂ (λ (f : Field) (k : ℕ). ltb v (2 ^ f .w) && takes k v) (narrow-wide c h) e
+
+pub range-number : (c v : ℕ) → v < 2 ^ 64 → allows (rangeOf c false) v ≡ true
+unfolding narrowOf takes
+range-number c v h = ap (λ (b : Bool). b && true) (lt-ltb v (2 ^ 64) h)
 
 -- m ones
 abbrev ones : ℕ → ℕ

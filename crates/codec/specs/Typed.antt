@@ -114,7 +114,7 @@ coded =
 abbrev pub widened : ℕ → ℕ
 widened c = c / 16777216 * 16777216 + (c / 65536 % 256 + c / 4096 % 16) % 256 * 65536 + c % 4096
 
--- the range of an argument, as a cell: an enum has its codes, and a number may be any
+-- the range of an argument, as a cell: an enum has its codes, and a number may be any (`range-code`, `range-number`, proofs/Typed.antt)
 abbrev pub rangeOf : ℕ → Bool → ℕ
 rangeOf c true = widened c
 rangeOf c false = wide 0 7

@@ -1,4 +1,5 @@
--- A frame held in two words of eight bytes, as the decoder reads it, and the masks of a row in the same two words. Assumes nothing.
+-- A frame held in two words of eight bytes, as the decoder reads it, and the masks of a row in the same two words. Only contracts
+-- of private functions cite these: what a frame says is in Decoding.antt. Assumes nothing.
 use Prim.Native.Nat.{ℕ, zero, suc, _+_, _-_, _*_}
 use mathlib.Core.Path.{_≡_}
 use mathlib.Core.Bool.{Bool, true, cond, _&&_}
