@@ -4,9 +4,6 @@ use Rattle.hoardbutton.proofs as hoardbutton
 
 -- ---- frames
 
-low-once : Once hoardbutton.frames.low.ended hoardbutton.frames.low.Reads.Pre hoardbutton.frames.low.Reads.Learnt
-low-once κs a h o u p q i = (same p q i, o .1)
-
 hb-plain-once : Once hoardbutton.frames.hb_plain.ended hoardbutton.frames.hb_plain.Reads.Pre hoardbutton.frames.hb_plain.Reads.Learnt
 hb-plain-once κs a h o u p q i = (same p q i, o .1)
 

@@ -1,7 +1,7 @@
 -- Nothing is cut on its way to C. Assumes nothing.
 use mathlib.Core.Path.{_≡_, refl, sym, ap, _∙_, subst}
 use mathlib.Core.Bool.{Bool, true, false, cond}
-use mathlib.Core.List.{List, [], _++_}
+use mathlib.Core.List.{List, [], _∷_, _++_}
 use Prim.Native.Nat.{ℕ, zero, suc, _+_, _-_, _≤_, _<_}
 use native.Mathlib.Omega.{arith}
 use lib.IntN.{ℤ, pos, negsuc, natAbs}
@@ -26,6 +26,8 @@ use Rattle.dump_text.proofs.Arguments.{decode-few}
 use Rattle.book.specs.Book.{ours, Contents, refused, holds, given, before, framesFrom, lengthAt, start, longest, wordAt, presentFrom, allZero, judge, opened, onContents, roomOf, call}
 use Rattle.book.specs.Settings.{settings, slotOf, lacks}
 use Rattle.book.specs.Plain.{Turn, become, refuse, placed, flat, putOn}
+use Rattle.cmd_lora.specs.declared.LoraBw.{LoraBw}
+use Rattle.cmd_lora.specs.Codes.{loraBwCode}
 use Rattle.status.specs.declared.CmdStatus.{CmdStatus}
 use Rattle.status.specs.declared.CmdStatus.the-variants as cmd
 use Rattle.status.specs.declared.ResetSrc.{ResetSrc}
@@ -34,6 +36,7 @@ use Rattle.status.specs.declared.ChipModeStatus.{ChipModeStatus}
 use Rattle.status.specs.declared.ChipModeStatus.the-variants as mode
 use Rattle.status.specs.Codes.{cmdCode, resetCode, modeCode}
 use Rattle.hoardbutton.specs.Books.{spot, answerC}
+use Rattle.hoardbutton.specs.Readings.{widths}
 use Rattle.hoardbutton.specs.Frames.{low, whereFrame, longFrame, frameC, whereRead, kindRead, decodedC}
 
 pub beyond : (n k : ℕ) → k ≤ n → (n ≡ k → ⊥) → suc k ≤ n
@@ -178,3 +181,12 @@ put-near f o room fs = by (ltb (slotOf f) settings) (leb (length (flat (placed f
 
 pub put-whole : (f b : List ℕ) → answerC (call ours (putOn f) [] b .answer) .place ≡ spot (call ours (putOn f) [] b .answer)
 put-whole f b = low-small _ (omega (arith, call-near (putOn f) [] b (put-near f)))
+
+-- ---- the widths stand in the order of their codes
+
+abbrev pub codesIn : List LoraBw → List ℕ
+codesIn [] = []
+codesIn (w ∷ ws) = loraBwCode w ∷ codesIn ws
+
+pub widths-codes : codesIn widths ≡ 0 ∷ 1 ∷ 2 ∷ 3 ∷ 4 ∷ 5 ∷ 6 ∷ 7 ∷ 8 ∷ 9 ∷ 10 ∷ 11 ∷ 12 ∷ 13 ∷ 14 ∷ 15 ∷ []
+widths-codes = refl

@@ -28,7 +28,7 @@ pub struct HbDecoded {
 }
 
 // The low 32 bits.
-pub fn low(x: u64) -> u32
+pub(crate) fn low(x: u64) -> u32
     ensures { λ r. ⌜ r ≡ low x ⌝ }
 {
     (x % 0x1_0000_0000) as u32

@@ -2,7 +2,9 @@
 ghost use mathlib.Core.Path.{_≡_};
 ghost use Rattle.reading.specs.Level.{rssiText, snrText, counterDifference};
 ghost use Rattle.rx_bw.specs.Width.{nameOf};
-ghost use Rattle.hoardbutton.specs.Readings.{bwOf, hzC, textC, filled};
+ghost use Rattle.dump_text.specs.Whole.{filled};
+ghost use Rattle.hoardbutton.specs.Readings.{bwOf, hzC};
+ghost use Rattle.hoardbutton.specs.Reels.{textC};
 use crate::books::HbAnswer;
 use cmd_lora::LoraBw;
 use reading::HalfDbm;

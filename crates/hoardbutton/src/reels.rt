@@ -2,8 +2,8 @@
 ghost use mathlib.Core.Path.{_≡_};
 ghost use Rattle.reel.specs.Reel.{stepAt};
 ghost use Rattle.dump_text.specs.Text.{textOf};
-ghost use Rattle.dump_text.specs.Whole.{dumped, filled};
-ghost use Rattle.hoardbutton.specs.Reels.{stepC, dumpC};
+ghost use Rattle.dump_text.specs.Whole.{filled};
+ghost use Rattle.hoardbutton.specs.Reels.{stepC, dumpC, textC};
 use crate::books::HbAnswer;
 use dump_text::Dumped;
 use reel::Cursor;
@@ -75,7 +75,7 @@ fn answered(d: Dumped) -> HbAnswer
 // The text of a dump to the front of the output.
 #[no_mangle]
 pub extern "C" fn hb_dump(reel: &[u8], out: &mut [u8]) -> HbAnswer
-    ensures { λ r. ⌜ (r ≡ dumpC (dumped (textOf (now (reel .entry))) (now (out .entry)))) × (now (out .exit) ≡ filled (textOf (now (reel .entry))) (now (out .entry))) ⌝ }
+    ensures { λ r. ⌜ (r ≡ textC (textOf (now (reel .entry))) (now (out .entry))) × (now (out .exit) ≡ filled (textOf (now (reel .entry))) (now (out .entry))) ⌝ }
 {
     answered(dump_text::dump(reel, out))
 }

@@ -6,7 +6,8 @@ use borrow.Author.Needs.{needs}
 use lib.ListN.{length}
 use Rattle.reading.specs.Level.{rssiText}
 use Rattle.reading.proofs.Texts.{rssi-length}
-use Rattle.hoardbutton.specs.Readings.{textC, filled}
+use Rattle.dump_text.specs.Whole.{filled}
+use Rattle.hoardbutton.specs.Reels.{textC}
 use Rattle.hoardbutton.proofs.Whole.{text-fits, text-shown}
 use Rattle.hoardbutton.proofs.readings.hb_level_text.Statement.{statement}
 use Rattle.hoardbutton.proofs.readings.hb_level_text.Tie as tie

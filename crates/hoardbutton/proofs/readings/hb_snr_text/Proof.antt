@@ -9,7 +9,8 @@ use lib.ListN.{length}
 use Rattle.reading.specs.Level.{textOf, snrText}
 use Rattle.reading.proofs.Texts.{snr-length}
 use Rattle.reading.proofs.Signs.{mag-small}
-use Rattle.hoardbutton.specs.Readings.{textC, filled}
+use Rattle.dump_text.specs.Whole.{filled}
+use Rattle.hoardbutton.specs.Reels.{textC}
 use Rattle.hoardbutton.proofs.Whole.{abs-small, text-fits, text-shown}
 use Rattle.hoardbutton.proofs.readings.hb_snr_text.Statement.{statement}
 use Rattle.hoardbutton.proofs.readings.hb_snr_text.Tie as tie
