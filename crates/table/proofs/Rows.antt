@@ -13,7 +13,7 @@ use Rattle.frame.specs.Layout.{soundAll, layout, apart, apartAll, disjoint, tab
 use Rattle.frame.proofs.Fields.{both-left, both-right}
 use Rattle.frame.proofs.Puts.{puts-zero}
 use Rattle.table.specs.Number.{narrowOf, plainOf, narrowsOf, plainsOf}
-use Rattle.table.specs.Table.{rows, rowAt, opOf, lenOf, countOf, numbersOf, opNumber, plainRow}
+use Rattle.table.specs.Table.{kinds, rows, rowAt, opOf, lenOf, countOf, numbersOf, opNumber, plainRow}
 use Rattle.table.specs.Laid.{laid, allLaid, slotsFrom, find, allFound}
 
 -- ---- the test
@@ -22,7 +22,7 @@ pub right : T ((allLaid rows && slotsFrom 0 rows) && allFound rows 0 rows)
 unfolding allLaid laid slotsFrom allFound find soundAll sound disjoint apartAll apart mask narrowsOf narrowOf plainOf
 right = tt
 
-pub count : length rows ≡ 39
+pub count : length rows ≡ kinds
 count = refl
 
 -- ---- a row that passes it
@@ -71,24 +71,24 @@ found-part = both-right (allLaid rows && slotsFrom 0 rows) (allFound rows 0 rows
 pub slots-in-order : T (slotsFrom 0 rows)
 slots-in-order = both-right (allLaid rows) (slotsFrom 0 rows) (both-left (allLaid rows && slotsFrom 0 rows) (allFound rows 0 rows) right)
 
-pub row-laid : (k : ℕ) → k < 39 → Laid (getD rows k [])
+pub row-laid : (k : ℕ) → k < kinds → Laid (getD rows k [])
 row-laid k h = laid-at rows laid-part k h
 
 -- a place of the table has its row
-pub row-at : (k : ℕ) → k < 39 → rowAt k ≡ getD rows k []
+pub row-at : (k : ℕ) → k < kinds → rowAt k ≡ getD rows k []
 unfolding rowAt
 row-at k h = let e : min k 38 ≡ k = omega arith in ap (λ (i : ℕ). getD rows i []) e
 
 -- the search finds the row itself
-pub row-found : (k : ℕ) → k < 39 → find rows (opOf (getD rows k [])) (lenOf (getD rows k [])) ≡ k
+pub row-found : (k : ℕ) → k < kinds → find rows (opOf (getD rows k [])) (lenOf (getD rows k [])) ≡ k
 row-found k h = found-at rows 0 rows found-part k h ∙ zero-add k
 
 -- opcode and length determine the kind
-pub row-one : (j k : ℕ) → j < 39 → k < 39 → opOf (getD rows j []) ≡ opOf (getD rows k []) → lenOf (getD rows j []) ≡ lenOf (getD rows k []) → j ≡ k
+pub row-one : (j k : ℕ) → j < kinds → k < kinds → opOf (getD rows j []) ≡ opOf (getD rows k []) → lenOf (getD rows j []) ≡ lenOf (getD rows k []) → j ≡ k
 row-one j k h l p q = sym (row-found j h) ∙ ap (λ (n : ℕ). find rows n (lenOf (getD rows j []))) p ∙ ap (find rows (opOf (getD rows k []))) q ∙ row-found k l
 
 -- byte i of a plain builder's frame is all that the opcode and the arguments put there, ORed
-pub plain-is : (k : ℕ) → k < 39 → (vs : List ℕ) →
+pub plain-is : (k : ℕ) → k < kinds → (vs : List ℕ) →
     plainRow (getD rows k []) vs ≡ tab (lenOf (getD rows k [])) (byteOf (plainsOf (opNumber ∷ numbersOf (getD rows k []))) (opOf (getD rows k []) ∷ vs))
 plain-is k h vs =
     let r = row-laid k h in

@@ -6,7 +6,7 @@ use mathlib.Core.List.{List, [], _∷_}
 use lib.Dec.{eqb, leb}
 use Rattle.frame.specs.Layout.{soundAll, layout}
 use Rattle.table.specs.Number.{narrowsOf, plainsOf}
-use Rattle.table.specs.Table.{action, opOf, lenOf, slotOf, countOf, numbersOf, opNumber}
+use Rattle.table.specs.Table.{action, settings, opOf, lenOf, slotOf, countOf, numbersOf, opNumber}
 
 -- a frame of 2 to 12 bytes and at most nine fields; all of them lie inside the frame, and the narrowed ones share no bit
 unfoldable pub laid : List ℕ → Bool
@@ -18,9 +18,9 @@ unfoldable pub allLaid : List (List ℕ) → Bool
 allLaid [] = true
 allLaid (r ∷ rs) = laid r && allLaid rs
 
--- "The other 29 kinds are settings; slot numbers 0 to 28 follow kind order.": n slots are given before these rows, and 29 in all
+-- "The other 29 kinds are settings; slot numbers 0 to 28 follow kind order.": n slots are given before these rows, and as many as there are settings in all
 unfoldable pub slotsFrom : ℕ → List (List ℕ) → Bool
-slotsFrom n [] = eqb n 29
+slotsFrom n [] = eqb n settings
 slotsFrom n (r ∷ rs) = cond (eqb (slotOf r) action) (slotsFrom n rs) (eqb (slotOf r) n && slotsFrom (suc n) rs)
 
 -- "A command is known by opcode and length together: 021D has two." The place of the first row that has both, or the number of rows.

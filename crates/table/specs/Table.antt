@@ -9,6 +9,14 @@ use Rattle.frame.specs.Layout.{puts}
 use Rattle.table.specs.Number.{bits, bit, wide, byte, lowFirst, upTo, among, narrowed, plainsOf}
 use Rattle.table.specs.Codes.{sfs, preambles, crcs, cadExits, rxBws}
 
+-- how many kinds there are: they are numbered from 1, in the order of the rows
+abbrev pub kinds : ℕ
+kinds = 39
+
+-- how many of them are settings: their slots are the numbers below
+abbrev pub settings : ℕ
+settings = 29
+
 -- the slot of a command that is never kept
 abbrev pub action : ℕ
 action = 255
@@ -125,7 +133,7 @@ rowOf k = getD rows (k - 1) []
 
 -- the row at a place, and the last one past the end
 unfoldable pub rowAt : ℕ → List ℕ
-rowAt i = getD rows (min i 38) []
+rowAt i = getD rows (min i (kinds - 1)) []
 
 -- "Byte 0 and 1 are the opcode."
 abbrev pub opNumber : ℕ

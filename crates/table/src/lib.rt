@@ -148,6 +148,11 @@ const B10_7: u32 = 0xA701_0000;
 
 const W11: u32 = 0xB008_0000;
 
+// How many kinds there are, and how many of them are settings.
+pub const KINDS: u64 = 39;
+
+pub const SETTINGS: usize = 29;
+
 // The slot of a command that is never kept.
 pub const ACTION: u32 = 255;
 
@@ -387,7 +392,7 @@ pub const ROW_38: [u32; 13] = [0x021A, 3, 27, 1, B2_3_0, 0, 0, 0, 0, 0, 0, 0, 0]
 
 pub const ROW_39: [u32; 13] = [0x021B, 10, 28, 4, W2_4, W5, B6_1_0_TO2, W7_9, 0, 0, 0, 0, 0];
 
-pub const TABLE: [[u32; 13]; 39] = [
+pub const TABLE: [[u32; 13]; KINDS as usize] = [
     ROW_1,
     ROW_2,
     ROW_3,
@@ -477,7 +482,7 @@ pub fn row_at(i: usize) -> [u32; 13]
 }
 
 // The whole table, built on the stack.
-pub fn table() -> [[u32; 13]; 39]
+pub fn table() -> [[u32; 13]; KINDS as usize]
     ensures { λ r. ⌜ r ≡ rows ⌝ }
 {
     TABLE
