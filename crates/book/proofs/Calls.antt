@@ -15,7 +15,11 @@ use Rattle.book.specs.declared.Answer.the-variants.{Done, Refused}
 use Rattle.book.specs.Plain.{Turn, become, clearOn, flat}
 use Rattle.book.specs.Book.{Contents, Layout, call, header, holds, image, judge, longest, made, opened, place, refused, roomOf, start, verdict, words}
 use Rattle.book.specs.Edits.{setWord}
-use Rattle.book.proofs.Judged.{Reads, judge-reads}
+use Rattle.book.proofs.Judged.{Bytes, Reads, judge-image, judge-reads}
+
+-- an answer is not both
+pub done-refused : (n : ℕ) (x : Refusal) → Done n ≡ Refused x → ⊥
+done-refused n x q = let y : _≡_ {A = ℕ} 0 1 = cc in omega arith
 
 pub record Holds (l : Layout) (b : List ℕ) : Type 0 where
   pub frames : List (List ℕ)
@@ -28,8 +32,17 @@ unfolding opened
 opened-holds l b n h = go (judge l b) refl h
   where
     go : (r : Contents) → judge l b ≡ r → Done n ≡ verdict r → Holds l b
-    go (refused x) e z = let y : _≡_ {A = ℕ} 0 1 = cc in absurd (omega arith)
+    go (refused x) e z = absurd (done-refused n x z)
     go (holds fs) e z = record { frames = fs; reads = e; opens = e }
+
+-- what opens reads as those frames
+pub opened-judge : (l : Layout) (b : List ℕ) (fs : List (List ℕ)) → opened l b ≡ holds fs → judge l b ≡ holds fs
+unfolding opened
+opened-judge l b fs h = h
+
+-- and is their image
+pub opened-bytes : (l : Layout) (b : List ℕ) (fs : List (List ℕ)) → Bytes b → opened l b ≡ holds fs → b ≡ image l (length b) fs
+opened-bytes l b fs B h = judge-image l b fs B (opened-judge l b fs h)
 
 -- what a call gives, all of it
 pub record Gives (l : Layout) (s : List ℕ → ℕ → List (List ℕ) → Turn) (o b : List ℕ) (a : Answer) (x y : List ℕ) : Type 0 where
@@ -44,7 +57,7 @@ turned-away l s o b a r e z = go (opened l b) refl
   where
     go : (q : Contents) → opened l b ≡ q → Gives l s o b a o b
     go (refused n) w = let u : a ≡ Refused n = e ∙ ap verdict w in record { answer = rw w u; output = rw w; bytes = rw w }
-    go (holds fs) w = let u : a ≡ Done 0 = e ∙ ap verdict w in let y : _≡_ {A = ℕ} 0 1 = cc in absurd (omega arith)
+    go (holds fs) w = absurd (done-refused 0 r (sym (e ∙ ap verdict w) ∙ z))
 
 -- a call on a book that reads as frames is the step on them
 pub accept : (l : Layout) (s : List ℕ → ℕ → List (List ℕ) → Turn) (o b : List ℕ) (h : Holds l b) (t : Turn) (y : List ℕ) → s o (roomOf l (length b)) (h .frames) ≡ t → y ≡ image l (length b) (t .frames)
@@ -127,5 +140,5 @@ pub opened-done : (l : Layout) (b : List ℕ) (n : ℕ) → Done n ≡ verdict (
 opened-done l b n h = go (opened l b) h
   where
     go : (r : Contents) → Done n ≡ verdict r → Done 0 ≡ verdict r
-    go (refused x) z = let y : _≡_ {A = ℕ} 0 1 = cc in absurd (omega arith)
+    go (refused x) z = absurd (done-refused n x z)
     go (holds fs) z = refl

@@ -2,13 +2,16 @@
 --     placed-newest, placed-others    after a put the list has that frame of its kind, and of every other what it had
 --     placed-order, placed-last       "A kind already held is overwritten in its place"; one that is not goes to the end
 --     without-gone, without-others    a removed kind is gone, every other stays
+--     without-order                   and in the order that they had
 --     without-room                    a removal frees the bytes of its frame
 --     setting-put                     a setting's frame is put, or refused for room
 --     setting-full, put-eight         8 exactly when the list with the frame would not fit
+--     decode-own                      the decoder's refusals are 1 to 5
 --     setting-over                    an overwrite never needs room
 --     checked-put                     what the checked builder makes of a setting is never refused but for room
 --     replay-whole                    a replay reports the sum of the lengths and one byte a frame
---     reel-read                       and read as a reel it gives the frames
+--     replay-steps                    and stepped through as a reel it gives the frames, and then the end
+--     ask-decodes                     the frame that an ask gives decodes to the kind asked for
 --     same-bytes                      two sound books are equal exactly when their lists are
 -- Assumes nothing.
 use mathlib.Core.Path.{ap, ap₂, refl, subst, sym, _∙_, _≡_}
@@ -18,24 +21,28 @@ use Prim.Native.Nat.{suc, zero, ℕ, _+_, _<_, _≤_}
 use native.Mathlib.Omega.{arith}
 use borrow.Author.Tests.{eq-eqb, eqb-true, le-leb, leb-false, lt-leb, lt-ltb, ltb-true, ne-eqb}
 use lib.Dec.{eqb, leb, ltb}
-use lib.ListN.{drop, getD, length, length-append}
-use lib.Seq.{drop-at, take-at}
+use lib.ListN.{drop, getD, length, length-append, take}
+use lib.Seq.{take-at}
 use Rattle.table.specs.Laid.{find}
-use Rattle.table.specs.Table.{rows}
+use Rattle.table.specs.Table.{kinds, rows}
 use Rattle.refusal.specs.Numbers.{numberOf}
 use Rattle.refusal.specs.declared.Refusal.{Refusal}
-use Rattle.refusal.specs.declared.Refusal.the-variants.{NoRoom, ShortFrame, StrayBit, UnknownCode, UnknownOpcode, WrongLength}
+use Rattle.refusal.specs.declared.Refusal.the-variants.{NoRoom, NotAKind, NotHeld, OutputShort, ShortFrame, StrayBit, UnknownCode, UnknownOpcode, WrongLength}
 use Rattle.codec.specs.Building.{checked, makes}
 use Rattle.codec.specs.Decoding.{Reading, decode, judged, known, lackingAt, reading, refuses, strayAt}
 use Rattle.codec.specs.Narrowed.{argumentsIn, opcode}
 use Rattle.codec.proofs.Laws.{decode-checked}
+use Rattle.reel.specs.declared.Step.the-variants.{End}
+use Rattle.reel.specs.Reel.{reelOf, walk}
+use Rattle.reel.proofs.Walks.{walk-whole}
 use Rattle.book.specs.declared.Answer.{Answer}
 use Rattle.book.specs.declared.Answer.the-variants.{Done, Refused}
 use Rattle.book.specs.Settings.{lacks, settings, sizeOf, slotFor, slotIn, slotOf}
-use Rattle.book.specs.Plain.{Turn, become, flat, frameOf, framesIn, held, placed, putOn, reelOf, refuse, replayOn, seat, swapIn, without}
+use Rattle.book.specs.Plain.{Turn, askOn, become, flat, frameOf, held, placed, putOn, refuse, replayOn, seat, swapIn, tell, without}
 use Rattle.book.specs.Book.{Layout, holds, image, judge}
-use Rattle.book.proofs.Settings.{slotOf-length}
+use Rattle.book.proofs.Settings.{slot-one, slotOf-length}
 use Rattle.book.proofs.Shape.{Sound}
+use Rattle.book.proofs.Calls.{done-refused}
 use Rattle.book.proofs.Judged.{Bytes, judge-image}
 use Rattle.book.proofs.Putting.{swap-room}
 use Rattle.book.proofs.Telling.{reel-length}
@@ -145,6 +152,20 @@ without-room s (g ∷ fs) S h = go (without-room s fs (S .2)) (eqb (slotOf g) s)
     go ih true e q = omega (arith, length-append g (flat fs), slotOf-length g (S .0), ap sizeOf (eqb-true (slotOf g) s e))
     go ih false e q = omega (arith, length-append g (flat fs), length-append g (flat (without s fs)), ih q)
 
+-- a list of slots without the first s
+unfoldable pub gone : ℕ → List ℕ → List ℕ
+gone s [] = []
+gone s (j ∷ js) = cond (eqb j s) js (j ∷ gone s js)
+
+pub without-order : (s : ℕ) (fs : List (List ℕ)) → slotsIn (without s fs) ≡ gone s (slotsIn fs)
+unfolding without gone
+without-order s [] = refl
+without-order s (g ∷ fs) = go (without-order s fs) (eqb (slotOf g) s)
+  where
+    go : slotsIn (without s fs) ≡ gone s (slotsIn fs) → (t : Bool) → slotsIn (cond t fs (g ∷ without s fs)) ≡ cond t (slotsIn fs) (slotOf g ∷ gone s (slotsIn fs))
+    go ih true = refl
+    go ih false = ap (λ (l : List ℕ). slotOf g ∷ l) ih
+
 -- ---- room
 
 -- an answer's number: 0 where the call is done
@@ -162,7 +183,7 @@ module _ (f o : List ℕ) (room : ℕ) (fs : List (List ℕ)) (a : slotOf f < se
   setting-full = ((λ h. setting-put ∙ rw (lt-leb _ _ h)), λ e. go (leb (length (flat (placed f fs))) room) refl (sym (ap (λ (t : Turn). t .answer) setting-put) ∙ e))
     where
       go : (t : Bool) → leb (length (flat (placed f fs))) room ≡ t → cond {A = Turn} t (become o (placed f fs)) (refuse NoRoom o fs) .answer ≡ Refused NoRoom → room < length (flat (placed f fs))
-      go true p q = let z : _≡_ {A = ℕ} 0 1 = cc in absurd (omega arith)
+      go true p q = absurd (done-refused 0 NoRoom q)
       go false p q = leb-false _ _ p
 
   pub setting-over : held (slotOf f) fs ≡ true → Sound fs → length (flat fs) ≤ room → putOn f o room fs ≡ become o (placed f fs)
@@ -172,9 +193,9 @@ module _ (f o : List ℕ) (room : ℕ) (fs : List (List ℕ)) (a : slotOf f < se
       setting-put ∙ rw (h, le-leb (length (flat (swapIn (slotOf f) f fs))) room (omega arith))
 
 -- the decoder refuses by 1 to 5
-decode-own : (f : List ℕ) (x : Refusal) → decode f ≡ refuses x → numberOf x ≤ 5
+pub decode-own : (f : List ℕ) (x : Refusal) → decode f ≡ refuses x → numberOf x ≤ 5
 unfolding decode judged
-decode-own f x e = go (ltb (length f) 2) (ltb i 39) (known rows (opcode f)) (ltb (strayAt r f) (length f)) (ltb (lackingAt r f) (length f)) e
+decode-own f x e = go (ltb (length f) 2) (ltb i kinds) (known rows (opcode f)) (ltb (strayAt r f) (length f)) (ltb (lackingAt r f) (length f)) e
   where
     i : ℕ
     i = find rows (opcode f) (length f)
@@ -218,21 +239,78 @@ checked-put k vs f e a o room fs =
     let q : slotOf f ≡ slotFor k = ap slotIn (decode-checked k vs f e) in
     setting-put f o room fs (omega arith)
 
--- ---- replay
+-- ---- ask and replay
+
+-- what `tell` is done with: the bytes that it reports, and no more
+record Told (x : List ℕ) (n : ℕ) (out : List ℕ) : Type 0 where
+  long : n ≡ length x
+  written : take n out ≡ x
+
+tell-done : (x o : List ℕ) (fs : List (List ℕ)) (n : ℕ) → tell x o fs .answer ≡ Done n → Told x n (tell x o fs .output)
+tell-done x o fs n e = go (leb (length x) (length o)) e
+  where
+    picked : Bool → Turn
+    picked t = cond t (record { answer = Done (length x); output = x ++ drop (length x) o; frames = fs }) (refuse OutputShort o fs)
+
+    go : (t : Bool) → picked t .answer ≡ Done n → Told x n (picked t .output)
+    go true q = let l : n ≡ length x = cc in record { long = l; written = take-at x (drop (length x) o) n (sym l) }
+    go false q = absurd (done-refused n OutputShort (sym q))
+
+-- the frame of a slot that is held has that slot
+pub frame-slot : (s : ℕ) (fs : List (List ℕ)) → held s fs ≡ true → slotOf (frameOf s fs) ≡ s
+unfolding held frameOf
+frame-slot s [] h = absurd (false≢true h)
+frame-slot s (g ∷ fs) h = go (frame-slot s fs) (eqb (slotOf g) s) refl h
+  where
+    go : (held s fs ≡ true → slotOf (frameOf s fs) ≡ s) → (t : Bool) → eqb (slotOf g) s ≡ t → cond t true (held s fs) ≡ true → slotOf (cond t g (frameOf s fs)) ≡ s
+    go ih true e q = eqb-true (slotOf g) s e
+    go ih false e q = ih q
+
+-- a frame that decodes to a kind
+pub record DecodesTo (k : ℕ) (f : List ℕ) : Type 0 where
+  pub arguments : List ℕ
+  pub reads : decode f ≡ reading k arguments
+
+-- a frame of a setting's slot decodes to that setting
+pub slot-decodes : (k : ℕ) (f : List ℕ) → slotFor k < settings → slotOf f ≡ slotFor k → DecodesTo k f
+unfolding slotOf
+slot-decodes k f a e = go (decode f) refl e
+  where
+    go : (x : Reading) → decode f ≡ x → slotIn x ≡ slotFor k → DecodesTo k f
+    go (reading j vs) w q =
+        let own : j ≡ k = slot-one j k (omega arith) q in record { arguments = vs; reads = w ∙ ap (λ (i : ℕ). reading i vs) own }
+    go (refuses x) w q = absurd (omega arith)
+
+pub ask-decodes : (k : ℕ) (o : List ℕ) (room : ℕ) (fs : List (List ℕ)) (n : ℕ) → askOn k o room fs .answer ≡ Done n
+    → DecodesTo k (take n (askOn k o room fs .output))
+unfolding askOn
+ask-decodes k o room fs n e = go (ltb (slotFor k) settings) refl (held (slotFor k) fs) refl e
+  where
+    s : ℕ
+    s = slotFor k
+
+    picked : Bool → Bool → Turn
+    picked a b = cond a (cond b (tell (frameOf s fs) o fs) (refuse NotHeld o fs)) (refuse NotAKind o fs)
+
+    go : (a : Bool) → ltb s settings ≡ a → (b : Bool) → held s fs ≡ b → picked a b .answer ≡ Done n → DecodesTo k (take n (picked a b .output))
+    go true p true q w =
+        let d = slot-decodes k (frameOf s fs) (ltb-true s settings p) (frame-slot s fs q) in
+        subst (λ (f : List ℕ). DecodesTo k f) (sym (tell-done (frameOf s fs) o fs n w .written)) d
+    go true p false q w = absurd (done-refused n NotHeld (sym w))
+    go false p b q w = absurd (done-refused n NotAKind (sym w))
 
 pub replay-whole : (o : List ℕ) (room : ℕ) (fs : List (List ℕ)) → length (flat fs) + length fs ≤ length o
     → replayOn o room fs ≡ record { answer = Done (length (flat fs) + length fs); output = reelOf fs ++ drop (length (flat fs) + length fs) o; frames = fs }
 unfolding replayOn
 replay-whole o room fs h = rw (reel-length fs, le-leb _ _ h)
 
-pub reel-read : (n : ℕ) (fs : List (List ℕ)) → length fs ≤ n → framesIn n (reelOf fs) ≡ fs
-unfolding framesIn reelOf
-reel-read zero [] h = refl
-reel-read zero (f ∷ fs) h = absurd (omega arith)
-reel-read (suc n) [] h = refl
-reel-read (suc n) (f ∷ fs) h =
-    ap₂ (λ (x : List ℕ) (l : List (List ℕ)). x ∷ l) (take-at f (reelOf fs) (length f) refl)
-    (ap (framesIn n) (drop-at f (reelOf fs) (length f) refl) ∙ reel-read n fs (omega arith))
+-- what a replay wrote, stepped through by the reel's own step: the list's frames, in order, and then the end
+pub replay-steps : (o : List ℕ) (room : ℕ) (fs : List (List ℕ)) (n : ℕ) → replayOn o room fs .answer ≡ Done n
+    → walk n (take n (replayOn o room fs .output)) 0 ≡ record { found = fs; last = End }
+unfolding replayOn
+replay-steps o room fs n e =
+    let t = tell-done (reelOf fs) o fs n e in
+    ap₂ (λ (k : ℕ) (r : List ℕ). walk k r 0) (t .long) (t .written) ∙ walk-whole fs
 
 -- ---- bytes
 

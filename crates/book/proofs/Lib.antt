@@ -8,7 +8,11 @@ pub mod Putting
 pub mod Removing
 pub mod Written
 pub mod Telling
+pub mod Kept
 pub mod History
 pub mod Laws
+pub mod Keeps
+pub mod Single
+pub mod Places
 pub mod Outcome
 pub mod Examples

@@ -2,18 +2,21 @@
 --     slotOf-length    a frame that decodes to a setting is as long as its slot says
 --     size-low         no setting's frame has less than three bytes
 --     slot-one         a slot has one kind
+--     setting-kinds    the ten actions, by number
 -- Assumes nothing.
 use mathlib.Core.Path.{ap, refl, sym, _∙_, _≡_}
-use mathlib.Core.Bool.{Bool, cond, false, false≢true, true, _&&_}
+use mathlib.Core.Bool.{Bool, cond, false, false≢true, not, true, _&&_}
 use mathlib.Core.List.{List, [], _∷_}
 use Prim.Native.Nat.{suc, zero, ℕ, _%_, _+_, _-_, _/_, _<_, _≤_}
 use native.Mathlib.Omega.{arith}
 use borrow.Author.Tests.{eqb-true, le-leb, leb-true, lt-leb, lt-ltb, ltb-false, ltb-true}
 use lib.Dec.{eqb, leb, ltb}
 use lib.ListN.{getD, length}
-use Rattle.table.specs.Table.{action, lenOf, rowOf, rows}
+use Rattle.table.specs.Codes.{isIn}
+use Rattle.table.specs.Table.{action, kinds, lenOf, rowOf, rows}
 use Rattle.refusal.specs.declared.Refusal.{Refusal}
 use Rattle.refusal.specs.declared.Refusal.the-variants.{NotAKind}
+use Rattle.codec.specs.Building.{isKind}
 use Rattle.codec.specs.Decoding.{Reading, decode, decoded, reading, refuses}
 use Rattle.codec.specs.declared.Decoded.{Decoded}
 use Rattle.codec.proofs.Handed.{decoded-reading, decoded-refuses}
@@ -100,10 +103,10 @@ size-some s n = go (ltb s settings) refl
 
 -- ---- slots
 
-module _ (k : ℕ) (low : 0 < k) (high : k ≤ 39) where
+module _ (k : ℕ) (low : 0 < k) (high : k ≤ kinds) where
   slot-row : slotFor k ≡ table.slotOf (rowOf k)
   unfolding slotFor
-  slot-row = rw (lt-ltb 0 k low, le-leb k 39 high)
+  slot-row = rw (lt-ltb 0 k low, le-leb k kinds high)
 
   row-suited : slotFor k < settings → (lenOf (rowOf k) ≡ sizeOf (slotFor k)) × (placeFor rows (slotFor k) ≡ k - 1)
   unfolding suited
@@ -116,21 +119,21 @@ module _ (k : ℕ) (low : 0 < k) (high : k ≤ 39) where
       past-zero : (n : ℕ) → 0 + n ≡ n
       past-zero n = omega arith
 
--- a kind that is a setting is 1 to 39
-slot-kinds : (k : ℕ) → slotFor k < settings → (0 < k) × (k ≤ 39)
+-- a kind that is a setting is one of the table's
+slot-bounds : (k : ℕ) → slotFor k < settings → (0 < k) × (k ≤ kinds)
 unfolding slotFor
-slot-kinds k a = go (ltb 0 k) (leb k 39) refl refl a
+slot-bounds k a = go (ltb 0 k) (leb k kinds) refl refl a
   where
-    go : (x y : Bool) → ltb 0 k ≡ x → leb k 39 ≡ y → cond (x && y) (table.slotOf (rowOf k)) action < settings → (0 < k) × (k ≤ 39)
-    go true true p q z = (ltb-true 0 k p, leb-true k 39 q)
+    go : (x y : Bool) → ltb 0 k ≡ x → leb k kinds ≡ y → cond (x && y) (table.slotOf (rowOf k)) action < settings → (0 < k) × (k ≤ kinds)
+    go true true p q z = (ltb-true 0 k p, leb-true k kinds q)
     go true false p q z = absurd (omega arith)
     go false y p q z = absurd (omega arith)
 
 pub slot-one : (j k : ℕ) → slotFor j < settings → slotFor j ≡ slotFor k → j ≡ k
 slot-one j k a e =
     let b : slotFor k < settings = omega arith in
-    let p = slot-kinds j a in
-    let q = slot-kinds k b in
+    let p = slot-bounds j a in
+    let q = slot-bounds k b in
     omega (arith, row-suited j (p .0) (p .1) a .1, row-suited k (q .0) (q .1) b .1, ap (placeFor rows) e)
 
 -- the i-th number of rows of ten
@@ -146,7 +149,7 @@ unfoldable pub sizeTens : List (List ℕ) → Bool
 unfolding every lengths
 sizeTens rs = every (λ i n. eqb (inTens rs i) n) 0 (lengths rows)
 
-pub slot-tens : (rs : List (List ℕ)) → slotTens rs ≡ true → (k : ℕ) → 0 < k → k ≤ 39 → inTens rs (k - 1) ≡ slotFor k
+pub slot-tens : (rs : List (List ℕ)) → slotTens rs ≡ true → (k : ℕ) → 0 < k → k ≤ kinds → inTens rs (k - 1) ≡ slotFor k
 unfolding slotTens
 slot-tens rs t k a b =
     ap (inTens rs) (past-zero (k - 1)) ∙ eqb-true _ _ (every-at (λ i r. eqb (inTens rs i) (table.slotOf r)) [] rows 0 t (k - 1) (omega arith)) ∙ sym (slot-row k a b)
@@ -165,9 +168,9 @@ pub slot-zero : action ≡ slotFor 0
 unfolding slotFor
 slot-zero = refl
 
-pub slot-past : (k : ℕ) → 39 < k → action ≡ slotFor k
+pub slot-past : (k : ℕ) → kinds < k → action ≡ slotFor k
 unfolding slotFor
-slot-past k a = rw (lt-ltb 0 k (omega arith), lt-leb k 39 a)
+slot-past k a = rw (lt-ltb 0 k (omega arith), lt-leb k kinds a)
 
 -- ---- a frame's slot
 
@@ -194,3 +197,38 @@ module _ (f : List ℕ) (d : Decoded) (p : d ≡ decoded (decode f)) where
 
   pub lacks-own : (x : Refusal) → d .answer ≡ decoder.Refused x → lacks (decode f) ≡ x
   lacks-own x q = ap lacks (decoded-refuses (decode f) d x p q)
+
+-- ---- by number
+
+-- the kinds that are no settings
+abbrev pub actions : List ℕ
+actions = 8 ∷ 9 ∷ 10 ∷ 22 ∷ 23 ∷ 29 ∷ 30 ∷ 32 ∷ 36 ∷ 37 ∷ []
+
+abbrev alike : Bool → Bool → Bool
+alike x y = cond x y (not y)
+
+alike-same : (x y : Bool) → alike x y ≡ true → x ≡ y
+alike-same true true e = refl
+alike-same true false e = absurd (false≢true e)
+alike-same false true e = absurd (false≢true e)
+alike-same false false e = refl
+
+listed : every (λ i r. alike (ltb (table.slotOf r) settings) (not (isIn (suc i) actions))) 0 rows ≡ true
+unfolding every isIn
+listed = refl
+
+-- THE TEN ACTIONS: a number is a setting's kind exactly if it is a kind and none of these
+pub setting-kinds : (k : ℕ) → ltb (slotFor k) settings ≡ isKind k && not (isIn k actions)
+unfolding slotFor
+setting-kinds k = go (ltb 0 k) refl (leb k kinds) refl
+  where
+    at : 0 < k → k ≤ kinds → ltb (table.slotOf (rowOf k)) settings ≡ not (isIn k actions)
+    at a b =
+        let n : suc (0 + (k - 1)) ≡ k = omega arith in
+        alike-same _ _ (every-at (λ i r. alike (ltb (table.slotOf r) settings) (not (isIn (suc i) actions))) [] rows 0 listed (k - 1) (omega arith))
+        ∙ ap (λ (i : ℕ). not (isIn i actions)) n
+
+    go : (x : Bool) → ltb 0 k ≡ x → (y : Bool) → leb k kinds ≡ y → ltb (cond (x && y) (table.slotOf (rowOf k)) action) settings ≡ (x && y) && not (isIn k actions)
+    go true p true q = at (ltb-true 0 k p) (leb-true k kinds q)
+    go true p false q = refl
+    go false p y q = refl

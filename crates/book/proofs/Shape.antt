@@ -85,43 +85,67 @@ place-in p (f ∷ fs) k s h = go (place-in (p + length f) fs k (s .2)) (eqb (slo
 
 -- ---- counting
 
-unfoldable pub countFrom : ℕ → (ℕ → Bool) → ℕ → ℕ
-countFrom zero q k = 0
-countFrom (suc l) q k = cond (q k) 1 0 + countFrom l q (k + 1)
+-- the sum of g over l slots from k on
+unfoldable pub sumFrom : ℕ → (ℕ → ℕ) → ℕ → ℕ
+sumFrom zero g k = 0
+sumFrom (suc l) g k = g k + sumFrom l g (k + 1)
 
-count-past : (l k s : ℕ) (q : ℕ → Bool) → s < k → countFrom l (λ j. cond (eqb s j) true (q j)) k ≡ countFrom l q k
-unfolding countFrom
-count-past zero k s q h = refl
-count-past (suc l) k s q h =
-    ap₂ (λ (t : Bool) (n : ℕ). cond (cond t true (q k)) 1 0 + n) (ne-eqb s k (omega arith)) (count-past l (k + 1) s q (omega arith))
+-- of those that pass the test q
+abbrev pub sumOf : ℕ → (ℕ → Bool) → (ℕ → ℕ) → ℕ → ℕ
+sumOf l q w k = sumFrom l (λ j. cond (q j) (w j) 0) k
 
-count-add : (l k s : ℕ) (q : ℕ → Bool) → q s ≡ false → k ≤ s → s < k + l → countFrom l (λ j. cond (eqb s j) true (q j)) k ≡ suc (countFrom l q k)
-unfolding countFrom
-count-add zero k s q n a b = absurd (omega arith)
-count-add (suc l) k s q n a b = go (λ x y. count-add l (k + 1) s q n x y) (eqb s k) refl
+abbrev pub countFrom : ℕ → (ℕ → Bool) → ℕ → ℕ
+countFrom l q k = sumOf l q (λ j. 1) k
+
+sum-past : (l k s : ℕ) (q : ℕ → Bool) (w : ℕ → ℕ) → s < k → sumOf l (λ j. cond (eqb s j) true (q j)) w k ≡ sumOf l q w k
+unfolding sumFrom
+sum-past zero k s q w h = refl
+sum-past (suc l) k s q w h =
+    ap₂ (λ (t : Bool) (n : ℕ). cond (cond t true (q k)) (w k) 0 + n) (ne-eqb s k (omega arith)) (sum-past l (k + 1) s q w (omega arith))
+
+-- one slot more
+sum-add : (l k s : ℕ) (q : ℕ → Bool) (w : ℕ → ℕ) → q s ≡ false → k ≤ s → s < k + l
+    → sumOf l (λ j. cond (eqb s j) true (q j)) w k ≡ w s + sumOf l q w k
+unfolding sumFrom
+sum-add zero k s q w n a b = absurd (omega arith)
+sum-add (suc l) k s q w n a b = go (λ x y. sum-add l (k + 1) s q w n x y) (eqb s k) refl
   where
-    go : (k + 1 ≤ s → s < k + 1 + l → countFrom l (λ j. cond (eqb s j) true (q j)) (k + 1) ≡ suc (countFrom l q (k + 1))) → (t : Bool) → eqb s k ≡ t → cond (cond (eqb s k) true (q k)) 1 0 + countFrom l (λ j. cond (eqb s j) true (q j)) (k + 1) ≡ suc (cond (q k) 1 0 + countFrom l q (k + 1))
+    go : (k + 1 ≤ s → s < k + 1 + l → sumOf l (λ j. cond (eqb s j) true (q j)) w (k + 1) ≡ w s + sumOf l q w (k + 1)) → (t : Bool) → eqb s k ≡ t
+        → cond (cond (eqb s k) true (q k)) (w k) 0 + sumOf l (λ j. cond (eqb s j) true (q j)) w (k + 1) ≡ w s + (cond (q k) (w k) 0 + sumOf l q w (k + 1))
     go ih true e =
         let x : s ≡ k = eqb-true s k e in
         let y : q k ≡ false = subst (λ (z : ℕ). q z ≡ false) x n in
-        rw (e, y, count-past l (k + 1) s q (omega arith)) (omega arith)
+        let v : w s ≡ w k = ap w x in
+        rw (e, y, sum-past l (k + 1) s q w (omega arith)) (omega arith)
     go ih false e =
         let x : s ≡ k → ⊥ = eqb-false s k e in
         rw (e, ih (omega arith) (omega arith)) (omega arith)
 
-count-none : (l k : ℕ) → countFrom l (λ j. false) k ≡ 0
-unfolding countFrom
-count-none zero k = refl
-count-none (suc l) k = omega (arith, count-none l (k + 1))
+sum-none : (l k : ℕ) → sumFrom l (λ j. 0) k ≡ 0
+unfolding sumFrom
+sum-none zero k = refl
+sum-none (suc l) k = omega (arith, sum-none l (k + 1))
 
+-- as many slots are held as there are frames, and their lengths are the frames'
 pub count-held : (m : ℕ) (fs : List (List ℕ)) → Sound fs → Within m fs → countFrom m (λ j. held j fs) 0 ≡ length fs
 unfolding held
-count-held m [] s w = count-none m 0
+count-held m [] s w = sum-none m 0
 count-held m (f ∷ fs) s w =
-    count-add m 0 (slotOf f) (λ j. held j fs) (s .1) (omega arith) (omega (arith, w .0)) ∙ ap suc (count-held m fs (s .2) (w .1))
+    sum-add m 0 (slotOf f) (λ j. held j fs) (λ j. 1) (s .1) (omega arith) (omega (arith, w .0)) ∙ one (count-held m fs (s .2) (w .1))
+  where
+    one : {x y : ℕ} → x ≡ y → 1 + x ≡ suc y
+    one e = omega arith
+
+pub sum-held : (fs : List (List ℕ)) → Sound fs → sumOf settings (λ j. held j fs) sizeOf 0 ≡ length (flat fs)
+unfolding held flat
+sum-held [] s = sum-none settings 0
+sum-held (f ∷ fs) s =
+    sum-add settings 0 (slotOf f) (λ j. held j fs) sizeOf (s .1) (omega arith) (omega (arith, s .0))
+    ∙ ap₂ (λ (x y : ℕ). x + y) (sym (slotOf-length f (s .0))) (sum-held fs (s .2))
+    ∙ sym (length-append f (flat fs))
 
 count-le : (l k : ℕ) (q r : ℕ → Bool) → ((j : ℕ) → q j ≡ true → r j ≡ true) → countFrom l q k ≤ countFrom l r k
-unfolding countFrom
+unfolding sumFrom
 count-le zero k q r h = le-refl 0
 count-le (suc l) k q r h = go (count-le l (k + 1) q r h) (q k) (r k) refl refl
   where
@@ -134,7 +158,7 @@ count-le (suc l) k q r h = go (count-le l (k + 1) q r h) (q k) (r k) refl refl
 -- where as many pass the weaker test as the stronger, what fails the stronger fails the weaker
 pub count-same : (l k : ℕ) (q r : ℕ → Bool) → ((j : ℕ) → q j ≡ true → r j ≡ true) → countFrom l q k ≡ countFrom l r k
     → (j : ℕ) → k ≤ j → j < k + l → q j ≡ false → r j ≡ false
-unfolding countFrom
+unfolding sumFrom
 count-same zero k q r h e j a b n = absurd (omega arith)
 count-same (suc l) k q r h e j a b n = go (λ e' x y. count-same l (k + 1) q r h e' j x y n) (q k) (r k) refl refl (eqb k j) refl
   where
@@ -154,7 +178,7 @@ count-same (suc l) k q r h e j a b n = go (λ e' x y. count-same l (k + 1) q r h
     go ih false false u v false z = let x : k ≡ j → ⊥ = eqb-false k j z in ih (same false u v) (omega arith) (omega arith)
 
 pub present-count : (l k : ℕ) (b : List ℕ) → presentFrom l b k ≡ countFrom l (λ j. not (eqb (offsetAt b j) 0)) k
-unfolding presentFrom countFrom
+unfolding presentFrom sumFrom
 present-count zero k b = refl
 present-count (suc l) k b = ap₂ (λ (x y : ℕ). x + y) (flip (eqb (offsetAt b k) 0)) (present-count l (k + 1) b)
   where
@@ -163,7 +187,7 @@ present-count (suc l) k b = ap₂ (λ (x y : ℕ). x + y) (flip (eqb (offsetAt b
     flip false = refl
 
 pub count-most : (l k : ℕ) (q : ℕ → Bool) → countFrom l q k ≤ l
-unfolding countFrom
+unfolding sumFrom
 count-most zero k q = le-refl 0
 count-most (suc l) k q = go (count-most l (k + 1) q) (q k)
   where

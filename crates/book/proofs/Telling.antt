@@ -12,9 +12,10 @@ use lib.Dec.{eqb}
 use lib.ListN.{drop, getD, length, length-append, length-drop, length-set, replicate, set, take, take-append-drop}
 use lib.Seq.{drop-append-add, drop-append-le, drop-drop, length-paste, length-take-le, paste, set-split, take-append-le, take-at, take-length}
 use Rattle.refusal.specs.declared.Refusal.the-variants.{NotAKind, NotHeld, OutputShort}
+use Rattle.reel.specs.Reel.{reelOf}
 use Rattle.book.specs.declared.Answer.the-variants.{Done, Refused}
 use Rattle.book.specs.Settings.{settings, sizeOf, slotFor, slotOf}
-use Rattle.book.specs.Plain.{askOn, flat, frameOf, held, reelOf, refuse, replayOn, tell}
+use Rattle.book.specs.Plain.{askOn, flat, frameOf, held, refuse, replayOn, tell}
 use Rattle.book.specs.Book.{Layout, framesFrom, header, holds, image, lengthAt, offsetAt, place, roomOf, start, wordAt}
 use Rattle.book.specs.Edits.{reelFrom}
 use Rattle.book.proofs.Settings.{slotOf-length}

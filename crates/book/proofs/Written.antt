@@ -15,7 +15,7 @@ use Rattle.book.specs.Settings.{settings, sizeOf, slotOf}
 use Rattle.book.specs.Plain.{flat, held}
 use Rattle.book.specs.Book.{Layout, allZero, before, framesFrom, header, holds, image, judge, lengthAt, lengthBy, longest, offsetAt, place, presentFrom, slotFrom, start, wordAt}
 use Rattle.book.proofs.Settings.{size-low, slotOf-length}
-use Rattle.book.proofs.Shape.{Sound, Within, count-held, countFrom, place-ge, place-none, present-count}
+use Rattle.book.proofs.Shape.{Sound, Within, count-held, countFrom, sumFrom, place-ge, place-none, present-count}
 use Rattle.book.proofs.Putting.{header-length}
 use Rattle.book.proofs.Removing.{head, head-get}
 use Rattle.book.proofs.Steps.{judge-all}
@@ -139,7 +139,7 @@ image-tail l n fs =
     ∙ zeros-zero (n - (start (l .slots) + length (flat fs)))
 
 count-cong : (l k : ℕ) (q r : ℕ → Bool) → ((j : ℕ) → k ≤ j → j < k + l → q j ≡ r j) → countFrom l q k ≡ countFrom l r k
-unfolding countFrom
+unfolding sumFrom
 count-cong zero k q r e = refl
 count-cong (suc l) k q r e =
     ap₂ (λ (t : Bool) (n : ℕ). cond t 1 0 + n) (e k (le-refl k) (omega arith)) (count-cong l (k + 1) q r (λ j a b. e j (omega arith) (omega arith)))

@@ -51,7 +51,7 @@ pub data Call : Type 0 where
   Replay : List ℕ → Call
 
 -- what a call makes of bytes: the outcome that its contract names
-unfoldable pub after : Layout → Call → List ℕ → Outcome
+abbrev pub after : Layout → Call → List ℕ → Outcome
 after l Make b = made l b
 after l (Put f) b = call l (putOn f) [] b
 after l (Remove k) b = call l (removeOn k) [] b

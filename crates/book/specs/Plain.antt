@@ -1,16 +1,17 @@
 -- The calls on a plain list of frames: no bytes of a book, no offsets. Each takes the lent output and the room, in bytes of frames, and gives
 -- its answer, the output and the list. The quotations are document 01's.
 -- Assumes nothing.
-use Prim.Native.Nat.{ℕ, zero, suc}
+use Prim.Native.Nat.{ℕ}
 use mathlib.Core.Bool.{Bool, true, false, cond}
 use mathlib.Core.List.{List, [], _∷_, _++_}
 use lib.Dec.{eqb, leb, ltb}
-use lib.ListN.{length, take, drop}
+use lib.ListN.{length, drop}
 use Rattle.refusal.specs.declared.Refusal.{Refusal}
 use Rattle.refusal.specs.declared.Refusal.the-variants.{NoRoom, NotHeld, OutputShort, NotAKind}
 use Rattle.codec.specs.declared.Answer as codec
 use Rattle.codec.specs.declared.Answer.the-variants as decoder
 use Rattle.codec.specs.Decoding.{decode}
+use Rattle.reel.specs.Reel.{reelOf}
 use Rattle.book.specs.declared.Answer.{Answer}
 use Rattle.book.specs.declared.Answer.the-variants.{Done, Refused}
 use Rattle.book.specs.Settings.{settings, slotFor, slotOf, lacks}
@@ -66,17 +67,6 @@ placed f fs = cond (held (seat (slotOf f) fs) fs) (swapIn (seat (slotOf f) fs) f
 unfoldable pub flat : List (List ℕ) → List ℕ
 flat [] = []
 flat (f ∷ fs) = f ++ flat fs
-
--- "A reel is frames, each after one length byte"
-unfoldable pub reelOf : List (List ℕ) → List ℕ
-reelOf [] = []
-reelOf (f ∷ fs) = length f ∷ (f ++ reelOf fs)
-
--- a reel read from its front, to at most n frames: a length byte, and that many bytes after it
-unfoldable pub framesIn : ℕ → List ℕ → List (List ℕ)
-framesIn zero s = []
-framesIn (suc n) [] = []
-framesIn (suc n) (x ∷ s) = take x s ∷ framesIn n (drop x s)
 
 -- ---- the calls
 

@@ -6,8 +6,9 @@ ghost use Prim.Native.Nat.{_+_, _-_, _*_, _<_, _≤_};
 ghost use lib.ListN.{length, getD, take, drop, set, replicate};
 ghost use lib.Seq.{paste};
 ghost use Rattle.book.specs.Settings.{settings, slotFor, sizeOf, slotOf};
-ghost use Rattle.book.specs.Plain.{declinedOf, putOn, removeOn, askOn, clearOn, replayOn};
-ghost use Rattle.book.specs.Book.{ours, layout, start, longest, wordAt, offsetAt, slotFrom, presentFrom, lengthAt, framesFrom, allZero, judge, verdict, opened, image, call, made, Permits, Tells};
+ghost use Rattle.book.specs.Plain.{declinedOf};
+ghost use Rattle.book.specs.History.{Make, Put, Remove, Ask, Clear, Replay, after};
+ghost use Rattle.book.specs.Book.{ours, layout, start, longest, wordAt, offsetAt, slotFrom, presentFrom, lengthAt, framesFrom, allZero, judge, verdict, opened, image, Permits, Tells};
 ghost use Rattle.book.specs.Edits.{setWord, appended, closedAt, remap, takenOut, Tiles, reelFrom};
 use refusal::Refusal;
 
@@ -391,7 +392,7 @@ fn write_reel(b: &[u8], slots: usize, c: usize, e: usize, out: &mut [u8])
 
 // The empty book, in a buffer of any content.
 pub fn make(book: &mut [u8]) -> Answer
-    ensures { λ r. ⌜ Permits (made ours (now (book .entry))) r (now (book .exit)) ⌝ }
+    ensures { λ r. ⌜ Permits (after ours Make (now (book .entry))) r (now (book .exit)) ⌝ }
 {
     if book.len() < START {
         return Answer::Refused(Refusal::BufferSize);
@@ -405,7 +406,7 @@ pub fn make(book: &mut [u8]) -> Answer
 
 // A setting's frame, in the place of the one that is held, or behind all others.
 pub fn put(book: &mut [u8], frame: &[u8]) -> Answer
-    ensures { λ r. ⌜ Permits (call ours (putOn (now (frame .entry))) [] (now (book .entry))) r (now (book .exit)) ⌝ }
+    ensures { λ r. ⌜ Permits (after ours (Put (now (frame .entry))) (now (book .entry))) r (now (book .exit)) ⌝ }
 {
     let found = ready(book);
     let Answer::Done(_) = found else {
@@ -426,7 +427,7 @@ pub fn put(book: &mut [u8], frame: &[u8]) -> Answer
 // A put into a sound book, of a frame that is a setting's: the length of a slot's frames is one, so an overwrite needs no room.
 fn put_setting(book: &mut [u8], frame: &[u8], slot: usize) -> Answer
     requires { ⌜ (Answer.Done 0 ≡ verdict (opened ours (now book))) × (slot ≡ slotOf (now frame)) × (slot < settings) ⌝ }
-    ensures { λ r. ⌜ Permits (call ours (putOn (now (frame .entry))) [] (now (book .entry))) r (now (book .exit)) ⌝ }
+    ensures { λ r. ⌜ Permits (after ours (Put (now (frame .entry))) (now (book .entry))) r (now (book .exit)) ⌝ }
 {
     let at = offset(book, slot);
     if at != 0 {
@@ -443,7 +444,7 @@ fn put_setting(book: &mut [u8], frame: &[u8], slot: usize) -> Answer
 
 // Takes a kind's frame out, and closes the gap.
 pub fn remove(book: &mut [u8], kind: u64) -> Answer
-    ensures { λ r. ⌜ Permits (call ours (removeOn kind) [] (now (book .entry))) r (now (book .exit)) ⌝ }
+    ensures { λ r. ⌜ Permits (after ours (Remove kind) (now (book .entry))) r (now (book .exit)) ⌝ }
 {
     let found = ready(book);
     let Answer::Done(_) = found else {
@@ -465,7 +466,7 @@ pub fn remove(book: &mut [u8], kind: u64) -> Answer
 
 // Writes a kind's frame to the front of the output.
 pub fn ask(book: &[u8], kind: u64, out: &mut [u8]) -> Answer
-    ensures { λ r. ⌜ Tells (call ours (askOn kind) (now (out .entry)) (now (book .entry))) r (now (out .exit)) ⌝ }
+    ensures { λ r. ⌜ Tells (after ours (Ask kind (now (out .entry))) (now (book .entry))) r (now (out .exit)) ⌝ }
 {
     let found = ready(book);
     let Answer::Done(_) = found else {
@@ -489,7 +490,7 @@ pub fn ask(book: &[u8], kind: u64, out: &mut [u8]) -> Answer
 
 // Takes every frame out.
 pub fn clear(book: &mut [u8]) -> Answer
-    ensures { λ r. ⌜ Permits (call ours clearOn [] (now (book .entry))) r (now (book .exit)) ⌝ }
+    ensures { λ r. ⌜ Permits (after ours Clear (now (book .entry))) r (now (book .exit)) ⌝ }
 {
     let found = ready(book);
     let Answer::Done(_) = found else {
@@ -501,7 +502,7 @@ pub fn clear(book: &mut [u8]) -> Answer
 
 // Writes all frames to the front of the output, each after its length, in the order of first entry.
 pub fn replay(book: &[u8], out: &mut [u8]) -> Answer
-    ensures { λ r. ⌜ Tells (call ours replayOn (now (out .entry)) (now (book .entry))) r (now (out .exit)) ⌝ }
+    ensures { λ r. ⌜ Tells (after ours (Replay (now (out .entry))) (now (book .entry))) r (now (out .exit)) ⌝ }
 {
     let found = ready(book);
     let Answer::Done(_) = found else {

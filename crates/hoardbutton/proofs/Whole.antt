@@ -12,7 +12,6 @@ use lib.Seq.{take-all, take-take, take-append-seam}
 use Rattle.reading.specs.declared.Text.{Text}
 use Rattle.reading.specs.Level.{textOf}
 use Rattle.refusal.specs.declared.Refusal.{Refusal}
-use Rattle.refusal.specs.declared.Refusal.the-variants.{NoRoom, NotWellFormed, BufferSize}
 use Rattle.refusal.specs.Numbers.{placeOf}
 use Rattle.codec.specs.declared.Decoded.{Decoded}
 use Rattle.codec.specs.declared.Built.{Built}
@@ -23,9 +22,11 @@ use Rattle.codec.specs.Typed.{plainBy}
 use Rattle.codec.proofs.Laws.{decode-kind}
 use Rattle.codec.proofs.Places.{placeIn, decode-place, Within, checked-within, plain-within}
 use Rattle.dump_text.proofs.Arguments.{decode-few}
-use Rattle.book.specs.Book.{ours, Contents, refused, holds, given, before, framesFrom, lengthAt, start, longest, wordAt, presentFrom, allZero, judge, opened, onContents, roomOf, call}
-use Rattle.book.specs.Settings.{settings, slotOf, lacks}
-use Rattle.book.specs.Plain.{Turn, become, refuse, placed, flat, putOn}
+use Rattle.book.specs.declared.Answer.{Answer}
+use Rattle.book.specs.declared.Answer.the-variants.{Done, Refused}
+use Rattle.book.specs.Book.{ours}
+use Rattle.book.specs.History.{Call, after}
+use Rattle.book.proofs.Places.{after-place}
 use Rattle.cmd_lora.specs.declared.LoraBw.{LoraBw}
 use Rattle.cmd_lora.specs.Codes.{loraBwCode}
 use Rattle.status.specs.declared.CmdStatus.{CmdStatus}
@@ -128,59 +129,15 @@ checked-whole k vs = built-whole (checked k vs) (checked-within k vs)
 pub plain-whole : (k : ℕ) (vs : List ℕ) → WholeFrame (built (plainBy k vs))
 plain-whole k vs = built-whole (plainBy k vs) (plain-within k vs)
 
--- ---- the book: the place of an answer is the decoder's, or 0
+-- ---- the book
 
-abbrev Near : Contents → Type 0
-Near (refused x) = placeOf x ≤ 12
-Near (holds fs) = 0 ≤ 12
-
-given-near : (t : Bool) (x : Refusal) (c : Contents) → placeOf x ≤ 12 → Near c → Near (given t x c)
-given-near true x c h n = n
-given-near false x c h n = h
-
-frames-near : (m c : ℕ) (b : List ℕ) (p e : ℕ) → Near (framesFrom m c b p e)
-unfolding framesFrom
-frames-near m zero b p e = given-near (eqb p e) NotWellFormed (holds []) (omega arith) (omega arith)
-frames-near m (suc c) b p e = by (eqb (lengthAt m b p e) 0) (framesFrom m c b (p + lengthAt m b p e) e) (frames-near m c b (p + lengthAt m b p e) e)
+-- of every call: what an answer's place is, it is for C
+pub book-whole : (c : Call) (b : List ℕ) → answerC (after ours c b .answer) .place ≡ spot (after ours c b .answer)
+book-whole c b = by (after ours c b .answer) (after-place ours b c)
   where
-    by : (t : Bool) (r : Contents) → Near r → Near (cond t (refused NotWellFormed) (before (take (lengthAt m b p e) (drop p b)) r))
-    by true r n = omega arith
-    by false (refused x) n = n
-    by false (holds fs) n = omega arith
-
-opened-near : (b : List ℕ) → Near (opened ours b)
-unfolding opened judge
-opened-near b =
-    given-near (leb (start (ours .slots)) (length b)) BufferSize _ (omega arith)
-    (given-near (leb (length b) longest) BufferSize _ (omega arith)
-    (given-near (eqb (getD b 0 0) (ours .version)) NotWellFormed _ (omega arith)
-    (given-near (leb (start (ours .slots)) (wordAt b 2)) NotWellFormed _ (omega arith)
-    (given-near (leb (wordAt b 2) (length b)) NotWellFormed _ (omega arith)
-    (given-near (eqb (presentFrom (ours .slots) b 0) (getD b 1 0)) NotWellFormed _ (omega arith)
-    (given-near (allZero (drop (wordAt b 2) b)) NotWellFormed _ (omega arith)
-    (frames-near (ours .slots) (getD b 1 0) b (start (ours .slots)) (wordAt b 2))))))))
-
--- of every call, where its own refusals are near
-call-near : (s : List ℕ → ℕ → List (List ℕ) → Turn) (o b : List ℕ) → ((o : List ℕ) (room : ℕ) (fs : List (List ℕ)) → spot (s o room fs .answer) ≤ 12) → spot (call ours s o b .answer) ≤ 12
-unfolding call
-call-near s o b h = by (opened ours b) (opened-near b)
-  where
-    by : (c : Contents) → Near c → spot (onContents ours s o b c .answer) ≤ 12
-    by (refused x) n = n
-    by (holds fs) n = h o (roomOf ours (length b)) fs
-
-put-near : (f o : List ℕ) (room : ℕ) (fs : List (List ℕ)) → spot (putOn f o room fs .answer) ≤ 12
-unfolding putOn
-put-near f o room fs = by (ltb (slotOf f) settings) (leb (length (flat (placed f fs))) room) (decode f) (decode-place f)
-  where
-    by : (a b : Bool) (x : Reading) → placeIn x ≤ 12 → spot (cond a (cond b (become o (placed f fs)) (refuse NoRoom o fs)) (refuse (lacks x) o fs) .answer) ≤ 12
-    by true true x h = omega arith
-    by true false x h = omega arith
-    by false b (reading k vs) h = omega arith
-    by false b (refuses x) h = h
-
-pub put-whole : (f b : List ℕ) → answerC (call ours (putOn f) [] b .answer) .place ≡ spot (call ours (putOn f) [] b .answer)
-put-whole f b = low-small _ (omega (arith, call-near (putOn f) [] b (put-near f)))
+    by : (a : Answer) → ((x : Refusal) → a ≡ Refused x → placeOf x ≤ 12) → answerC a .place ≡ spot a
+    by (Done n) h = refl
+    by (Refused x) h = low-small (placeOf x) (omega (arith, h x refl))
 
 -- ---- the widths stand in the order of their codes
 

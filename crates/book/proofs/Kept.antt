@@ -1,0 +1,186 @@
+-- What a list needs so that a book can hold it (`Kept`), and that every call keeps it (`put-kept`, `remove-kept`, `ask-kept`, `turn-kept`), a
+-- list of calls too (`turns-kept`); a book that opens holds such a list (`opened-kept`).
+-- Assumes nothing.
+use mathlib.Core.Path.{ap, refl, subst, sym, _∙_, _≡_}
+use mathlib.Core.Bool.{Bool, cond, false, false≢true, true}
+use mathlib.Core.List.{List, [], _++_, _∷_}
+use Prim.Native.Nat.{ℕ, _<_, _≤_}
+use native.Mathlib.Nat.{le-refl}
+use native.Mathlib.Omega.{arith}
+use borrow.Author.Tests.{eqb-false, eqb-true, leb-true, ltb-true, ne-eqb}
+use lib.Dec.{eqb, leb, ltb}
+use lib.ListN.{drop, getD, length, length-append}
+use Rattle.refusal.specs.declared.Refusal.the-variants.{NoRoom, NotAKind, NotHeld, OutputShort}
+use Rattle.codec.specs.Decoding.{decode}
+use Rattle.reel.specs.Reel.{reelOf}
+use Rattle.book.specs.declared.Answer.the-variants.{Done}
+use Rattle.book.specs.Settings.{lacks, settings, slotFor, slotOf}
+use Rattle.book.specs.Plain.{Turn, askOn, become, clearOn, flat, frameOf, held, placed, putOn, refuse, removeOn, replayOn, seat, swapIn, tell, without}
+use Rattle.book.specs.Book.{Layout, holds, opened, roomOf, start, wordAt}
+use Rattle.book.specs.History.{Ask, Call, Clear, Make, Put, Remove, Replay, onList, turn}
+use Rattle.book.proofs.Shape.{Sound, Within, sound-within}
+use Rattle.book.proofs.Calls.{opened-judge}
+use Rattle.book.proofs.Judged.{framesFrom-tiled, judge-reads}
+
+-- a list that a book of m slots with room for n bytes of frames can hold
+pub record Kept (m n : ℕ) (fs : List (List ℕ)) : Type 0 where
+  pub sound : Sound fs
+  pub within : Within m fs
+  pub room : length (flat fs) ≤ n
+
+-- ---- the steps keep it
+
+held-swap : (k : ℕ) (f : List ℕ) → slotOf f ≡ k → (j : ℕ) (fs : List (List ℕ)) → held j (swapIn k f fs) ≡ held j fs
+unfolding held swapIn
+held-swap k f own j [] = refl
+held-swap k f own j (g ∷ fs) = go (held-swap k f own j fs) (eqb (slotOf g) k) refl
+  where
+    go : held j (swapIn k f fs) ≡ held j fs → (t : Bool) → eqb (slotOf g) k ≡ t → held j (cond t (f ∷ fs) (g ∷ swapIn k f fs)) ≡ cond (eqb (slotOf g) j) true (held j fs)
+    go ih true w = ap (λ (x : ℕ). cond (eqb x j) true (held j fs)) (own ∙ sym (eqb-true _ _ w))
+    go ih false w = ap (λ (x : Bool). cond (eqb (slotOf g) j) true x) ih
+
+sound-swap : (k : ℕ) (f : List ℕ) → slotOf f ≡ k → k < settings → (fs : List (List ℕ)) → Sound fs → Sound (swapIn k f fs)
+unfolding swapIn
+sound-swap k f own a [] s = tt
+sound-swap k f own a (g ∷ fs) s = go (sound-swap k f own a fs (s .2)) (eqb (slotOf g) k) refl
+  where
+    go : Sound (swapIn k f fs) → (t : Bool) → eqb (slotOf g) k ≡ t → Sound (cond t (f ∷ fs) (g ∷ swapIn k f fs))
+    go ih true w = (omega arith, ap (λ (x : ℕ). held x fs) (own ∙ sym (eqb-true _ _ w)) ∙ s .1, s .2)
+    go ih false w = (s .0, held-swap k f own (slotOf g) fs ∙ s .1, ih)
+
+held-without : (k j : ℕ) (fs : List (List ℕ)) → held j fs ≡ false → held j (without k fs) ≡ false
+unfolding held without
+held-without k j [] h = refl
+held-without k j (g ∷ fs) h = go (held-without k j fs) (eqb (slotOf g) k) (eqb (slotOf g) j) refl h
+  where
+    go : (held j fs ≡ false → held j (without k fs) ≡ false) → (t x : Bool) → eqb (slotOf g) j ≡ x → cond x true (held j fs) ≡ false → held j (cond t fs (g ∷ without k fs)) ≡ false
+    go ih t true w q = absurd (false≢true (sym q))
+    go ih true false w q = q
+    go ih false false w q = rw w (ih q)
+
+sound-without : (k : ℕ) (fs : List (List ℕ)) → Sound fs → Sound (without k fs)
+unfolding without
+sound-without k [] s = tt
+sound-without k (g ∷ fs) s = go (sound-without k fs (s .2)) (eqb (slotOf g) k)
+  where
+    go : Sound (without k fs) → (t : Bool) → Sound (cond t fs (g ∷ without k fs))
+    go ih true = s .2
+    go ih false = (s .0, held-without k (slotOf g) fs (s .1), ih)
+
+held-append : (f : List ℕ) (j : ℕ) (fs : List (List ℕ)) → held j fs ≡ false → (slotOf f ≡ j → ⊥) → held j (fs ++ (f ∷ [])) ≡ false
+unfolding held
+held-append f j [] h n = rw (ne-eqb (slotOf f) j n)
+held-append f j (g ∷ fs) h n = go (λ q. held-append f j fs q n) (eqb (slotOf g) j) h
+  where
+    go : (held j fs ≡ false → held j (fs ++ (f ∷ [])) ≡ false) → (t : Bool) → cond t true (held j fs) ≡ false → cond t true (held j (fs ++ (f ∷ []))) ≡ false
+    go ih true q = absurd (false≢true (sym q))
+    go ih false q = ih q
+
+sound-append : (f : List ℕ) (fs : List (List ℕ)) → slotOf f < settings → held (slotOf f) fs ≡ false → Sound fs → Sound (fs ++ (f ∷ []))
+unfolding held
+sound-append f [] a h s = (a, refl, tt)
+sound-append f (g ∷ fs) a h s = go (λ q. sound-append f fs a q (s .2)) (eqb (slotOf g) (slotOf f)) refl h
+  where
+    go : (held (slotOf f) fs ≡ false → Sound (fs ++ (f ∷ []))) → (t : Bool) → eqb (slotOf g) (slotOf f) ≡ t → cond t true (held (slotOf f) fs) ≡ false → Sound (g ∷ (fs ++ (f ∷ [])))
+    go ih true w q = absurd (false≢true (sym q))
+    go ih false w q = (s .0, held-append f (slotOf g) fs (s .1) (λ e. eqb-false _ _ w (sym e)), ih q)
+
+placed-sound : (f : List ℕ) (fs : List (List ℕ)) → slotOf f < settings → Sound fs → Sound (placed f fs)
+unfolding placed seat
+placed-sound f fs a s = go (held (slotOf f) fs) refl
+  where
+    go : (t : Bool) → held (slotOf f) fs ≡ t → Sound (cond t (swapIn (slotOf f) f fs) (fs ++ (f ∷ [])))
+    go true e = sound-swap (slotOf f) f refl a fs s
+    go false e = sound-append f fs a e s
+
+without-le : (k : ℕ) (fs : List (List ℕ)) → length (flat (without k fs)) ≤ length (flat fs)
+unfolding flat without
+without-le k [] = le-refl 0
+without-le k (f ∷ fs) = go (without-le k fs) (eqb (slotOf f) k)
+  where
+    go : length (flat (without k fs)) ≤ length (flat fs) → (t : Bool) → length (flat (cond t fs (f ∷ without k fs))) ≤ length (f ++ flat fs)
+    go ih true = omega (arith, length-append f (flat fs))
+    go ih false = omega (arith, length-append f (flat fs), length-append f (flat (without k fs)))
+
+within-without : (m k : ℕ) (fs : List (List ℕ)) → Within m fs → Within m (without k fs)
+unfolding without
+within-without m k [] w = tt
+within-without m k (g ∷ fs) w = go (within-without m k fs (w .1)) (eqb (slotOf g) k)
+  where
+    go : Within m (without k fs) → (t : Bool) → Within m (cond t fs (g ∷ without k fs))
+    go ih true = w .1
+    go ih false = (w .0, ih)
+
+-- `tell` leaves the list
+pub tell-frames : (x o : List ℕ) (fs : List (List ℕ)) → tell x o fs .frames ≡ fs
+tell-frames x o fs = go (leb (length x) (length o))
+  where
+    go : (t : Bool) → cond {A = Turn} t (record { answer = Done (length x); output = x ++ drop (length x) o; frames = fs }) (refuse OutputShort o fs) .frames ≡ fs
+    go true = refl
+    go false = refl
+
+pub empty-kept : (m n : ℕ) → Kept m n []
+unfolding flat
+empty-kept m n = record { sound = tt; within = tt; room = omega arith }
+
+module _ (m n : ℕ) (fs : List (List ℕ)) (K : Kept m n fs) (o : List ℕ) where
+  pub tell-kept : (x : List ℕ) → Kept m n (tell x o fs .frames)
+  tell-kept x = subst (λ (gs : List (List ℕ)). Kept m n gs) (sym (tell-frames x o fs)) K
+
+  -- a put needs a slot for each setting
+  pub put-kept : settings ≤ m → (f : List ℕ) → Kept m n (putOn f o n fs .frames)
+  unfolding putOn
+  put-kept big f = go (ltb (slotOf f) settings) refl (leb (length (flat (placed f fs))) n) refl
+    where
+      go : (x : Bool) → ltb (slotOf f) settings ≡ x → (y : Bool) → leb (length (flat (placed f fs))) n ≡ y
+          → Kept m n (cond {A = Turn} x (cond y (become o (placed f fs)) (refuse NoRoom o fs)) (refuse (lacks (decode f)) o fs) .frames)
+      go false p y q = K
+      go true p false q = K
+      go true p true q =
+          let s : Sound (placed f fs) = placed-sound f fs (ltb-true _ _ p) (K .sound) in
+          record { sound = s; within = sound-within m big (placed f fs) s; room = leb-true _ _ q }
+
+  pub remove-kept : (k : ℕ) → Kept m n (removeOn k o n fs .frames)
+  unfolding removeOn
+  remove-kept k = go (ltb (slotFor k) settings) (held (slotFor k) fs)
+    where
+      go : (x y : Bool) → Kept m n (cond {A = Turn} x (cond y (become o (without (slotFor k) fs)) (refuse NotHeld o fs)) (refuse NotAKind o fs) .frames)
+      go false y = K
+      go true false = K
+      go true true =
+          record {
+            sound = sound-without (slotFor k) fs (K .sound);
+            within = within-without m (slotFor k) fs (K .within);
+            room = omega (arith, K .room, without-le (slotFor k) fs);
+          }
+
+  pub ask-kept : (k : ℕ) → Kept m n (askOn k o n fs .frames)
+  unfolding askOn
+  ask-kept k = go (ltb (slotFor k) settings) (held (slotFor k) fs)
+    where
+      go : (x y : Bool) → Kept m n (cond {A = Turn} x (cond y (tell (frameOf (slotFor k) fs) o fs) (refuse NotHeld o fs)) (refuse NotAKind o fs) .frames)
+      go false y = K
+      go true false = K
+      go true true = tell-kept (frameOf (slotFor k) fs)
+
+module _ (m : ℕ) (big : settings ≤ m) (n : ℕ) where
+  pub turn-kept : (c : Call) (fs : List (List ℕ)) → Kept m n fs → Kept m n (turn n c fs .frames)
+  unfolding turn clearOn replayOn
+  turn-kept Make fs K = empty-kept m n
+  turn-kept (Put f) fs K = put-kept m n fs K [] big f
+  turn-kept (Remove k) fs K = remove-kept m n fs K [] k
+  turn-kept (Ask k o) fs K = ask-kept m n fs K o k
+  turn-kept Clear fs K = empty-kept m n
+  turn-kept (Replay o) fs K = tell-kept m n fs K o (reelOf fs)
+
+  pub turns-kept : (cs : List Call) (fs : List (List ℕ)) → Kept m n fs → Kept m n (onList (turn n) cs fs .frames)
+  unfolding onList
+  turns-kept [] fs K = K
+  turns-kept (c ∷ cs) fs K = turns-kept cs (turn n c fs .frames) (turn-kept c fs K)
+
+-- a book that opens holds a list that it can hold
+pub opened-kept : (l : Layout) (b : List ℕ) (fs : List (List ℕ)) → opened l b ≡ holds fs → Kept (l .slots) (roomOf l (length b)) fs
+opened-kept l b fs h =
+    let r = judge-reads l b fs (opened-judge l b fs h) in
+    let t = framesFrom-tiled (l .slots) (getD b 1 0) b (start (l .slots)) (wordAt b 2) fs (r .tiled) in
+    record { sound = t .sound; within = t .within; room = omega (arith, t .ends, r .high) }
