@@ -13,17 +13,14 @@ use Rattle.reading.specs.declared.Text.{Text}
 use Rattle.reading.specs.Level.{textOf}
 use Rattle.refusal.specs.declared.Refusal.{Refusal}
 use Rattle.refusal.specs.Numbers.{placeOf}
-use Rattle.codec.specs.declared.Decoded.{Decoded}
-use Rattle.codec.specs.declared.Built.{Built}
-use Rattle.codec.specs.Decoding.{Reading, reading, refuses, decode, decoded}
+use Rattle.codec.specs.Decoding.{Reading, reading, refuses, decode}
 use Rattle.codec.specs.Building as builder
-use Rattle.codec.specs.Building.{Making, makes, checked, built}
+use Rattle.codec.specs.Building.{Making, makes, checked}
 use Rattle.codec.specs.Typed.{plainBy}
 use Rattle.codec.proofs.Laws.{decode-kind}
 use Rattle.codec.proofs.Places.{placeIn, decode-place, Within, checked-within, plain-within}
 use Rattle.dump_text.proofs.Arguments.{decode-few}
-use Rattle.book.specs.declared.Answer.{Answer}
-use Rattle.book.specs.declared.Answer.the-variants.{Done, Refused}
+use Rattle.book.specs.declared.Answer.the-variants.{Refused}
 use Rattle.book.specs.Book.{ours}
 use Rattle.book.specs.History.{Call, after}
 use Rattle.book.proofs.Places.{after-place}
@@ -36,9 +33,8 @@ use Rattle.status.specs.declared.ResetSrc.the-variants as reset
 use Rattle.status.specs.declared.ChipModeStatus.{ChipModeStatus}
 use Rattle.status.specs.declared.ChipModeStatus.the-variants as mode
 use Rattle.status.specs.Codes.{cmdCode, resetCode, modeCode}
-use Rattle.hoardbutton.specs.Books.{spot, answerC}
 use Rattle.hoardbutton.specs.Readings.{widths}
-use Rattle.hoardbutton.specs.Frames.{low, whereFrame, longFrame, frameC, whereRead, kindRead, decodedC}
+use Rattle.hoardbutton.specs.Answers.{low}
 
 pub beyond : (n k : ℕ) → k ≤ n → (n ≡ k → ⊥) → suc k ≤ n
 beyond n k h d = omega arith
@@ -99,45 +95,37 @@ low-small : (n : ℕ) → n ≤ 39 → low n ≡ n
 low-small n h = omega arith
 
 -- what the decoder hands over
-pub record WholeRead (d : Decoded) : Type 0 where
-  pub place : decodedC d .place ≡ whereRead (d .answer)
-  pub kind : decodedC d .kind ≡ kindRead (d .answer)
-  pub count : decodedC d .count ≡ d .count
+abbrev pub WholeRead : Reading → Type 0
+WholeRead (reading k vs) = (low k ≡ k) × (low (length vs) ≡ length vs)
+WholeRead (refuses x) = low (placeOf x) ≡ placeOf x
 
-pub decoded-whole : (f : List ℕ) → WholeRead (decoded (decode f))
-unfolding decoded
+pub decoded-whole : (f : List ℕ) → WholeRead (decode f)
 decoded-whole f = by (decode f) refl (decode-place f)
   where
-    by : (x : Reading) → decode f ≡ x → placeIn x ≤ 12 → WholeRead (decoded x)
-    by (reading k vs) e h =
-        record { place = refl; kind = low-small k (decode-kind f k vs e .1); count = low-small (length vs) (omega (arith, decode-few f k vs e)) }
-    by (refuses x) e h = record { place = low-small (placeOf x) (omega arith); kind = refl; count = refl }
+    by : (x : Reading) → decode f ≡ x → placeIn x ≤ 12 → WholeRead x
+    by (reading k vs) e h = (low-small k (decode-kind f k vs e .1), low-small (length vs) (omega (arith, decode-few f k vs e)))
+    by (refuses x) e h = low-small (placeOf x) (omega arith)
 
 -- what a builder hands over
-pub record WholeFrame (b : Built) : Type 0 where
-  pub place : frameC b .place ≡ whereFrame (b .verdict)
-  pub len : frameC b .len ≡ longFrame (b .verdict)
+abbrev pub WholeFrame : Making → Type 0
+WholeFrame (makes f) = low (length f) ≡ length f
+WholeFrame (builder.refuses x) = low (placeOf x) ≡ placeOf x
 
-built-whole : (m : Making) → Within m → WholeFrame (built m)
-unfolding built
-built-whole (makes f) w = record { place = refl; len = low-small (length f) (omega (arith, w .long)) }
-built-whole (builder.refuses x) w = record { place = low-small (placeOf x) (omega (arith, w .place)); len = refl }
+built-whole : (m : Making) → Within m → WholeFrame m
+built-whole (makes f) w = low-small (length f) (omega (arith, w .long))
+built-whole (builder.refuses x) w = low-small (placeOf x) (omega (arith, w .place))
 
-pub checked-whole : (k : ℕ) (vs : List ℕ) → WholeFrame (built (checked k vs))
+pub checked-whole : (k : ℕ) (vs : List ℕ) → WholeFrame (checked k vs)
 checked-whole k vs = built-whole (checked k vs) (checked-within k vs)
 
-pub plain-whole : (k : ℕ) (vs : List ℕ) → WholeFrame (built (plainBy k vs))
+pub plain-whole : (k : ℕ) (vs : List ℕ) → WholeFrame (plainBy k vs)
 plain-whole k vs = built-whole (plainBy k vs) (plain-within k vs)
 
 -- ---- the book
 
 -- of every call: what an answer's place is, it is for C
-pub book-whole : (c : Call) (b : List ℕ) → answerC (after ours c b .answer) .place ≡ spot (after ours c b .answer)
-book-whole c b = by (after ours c b .answer) (after-place ours b c)
-  where
-    by : (a : Answer) → ((x : Refusal) → a ≡ Refused x → placeOf x ≤ 12) → answerC a .place ≡ spot a
-    by (Done n) h = refl
-    by (Refused x) h = low-small (placeOf x) (omega (arith, h x refl))
+pub book-whole : (c : Call) (b : List ℕ) (x : Refusal) → after ours c b .answer ≡ Refused x → low (placeOf x) ≡ placeOf x
+book-whole c b x e = low-small (placeOf x) (omega (arith, after-place ours b c x e))
 
 -- ---- the widths stand in the order of their codes
 

@@ -1,31 +1,18 @@
--- A call's answer as C has it. proofs/Whole.antt says that no place is cut.
+-- The answer of a call of the book as C has it.
 -- Assumes nothing.
 use Prim.Native.Nat.{ℕ}
 use mathlib.Core.Path.{_≡_}
 use mathlib.Core.List.{List}
-use Rattle.refusal.specs.Numbers.{numberOf, placeOf}
 use Rattle.book.specs.declared.Answer.{Answer}
 use Rattle.book.specs.declared.Answer.the-variants.{Done, Refused}
 use Rattle.book.specs.Book.{Outcome}
-use Rattle.hoardbutton.specs.declared.books.HbAnswer.{HbAnswer}
-use Rattle.hoardbutton.specs.Frames.{low}
+use Rattle.hoardbutton.specs.declared.answers.HbAnswer.{HbAnswer}
+use Rattle.hoardbutton.specs.Answers.{doneC, refusedC}
 
--- document 01's number, 0 where the call is done
-abbrev pub why : Answer → ℕ
-why (Done n) = 0
-why (Refused x) = numberOf x
-
-abbrev pub spot : Answer → ℕ
-spot (Done n) = 0
-spot (Refused x) = placeOf x
-
--- "Ask and replay report the bytes written": 0 where a call writes none
-abbrev pub value : Answer → ℕ
-value (Done n) = n
-value (Refused x) = 0
-
+-- the bytes that a call wrote, 0 where it writes none (REFERENCE, "Book")
 abbrev pub answerC : Answer → HbAnswer
-answerC a = record { refusal = why a; place = low (spot a); value = value a }
+answerC (Done n) = doneC n
+answerC (Refused x) = refusedC x
 
 -- the answer of an outcome, with its bytes or with its output
 abbrev pub Leaves : Outcome → HbAnswer → List ℕ → Type 0

@@ -9,8 +9,9 @@ use Rattle.dump_text.specs.declared.Dumped.{Dumped}
 use Rattle.dump_text.specs.declared.Dumped.the-variants.{Text}
 use Rattle.dump_text.specs.declared.Dumped.the-variants as dump
 use Rattle.dump_text.specs.Whole.{dumped}
-use Rattle.hoardbutton.specs.declared.books.HbAnswer.{HbAnswer}
+use Rattle.hoardbutton.specs.declared.answers.HbAnswer.{HbAnswer}
 use Rattle.hoardbutton.specs.declared.reels.HbStep.{HbStep}
+use Rattle.hoardbutton.specs.Answers.{doneC, refusedC}
 
 abbrev pub stepC : Step → HbStep
 stepC (Frame start end next) = record { refusal = 0; ended = 0; start = start; end = end; next = next .at }
@@ -18,8 +19,8 @@ stepC End = record { refusal = 0; ended = 1; start = 0; end = 0; next = 0 }
 stepC (Refused x) = record { refusal = numberOf x; ended = 0; start = 0; end = 0; next = 0 }
 
 abbrev pub dumpC : Dumped → HbAnswer
-dumpC (Text n) = record { refusal = 0; place = 0; value = n }
-dumpC (dump.Refused x) = record { refusal = numberOf x; place = 0; value = 0 }
+dumpC (Text n) = doneC n
+dumpC (dump.Refused x) = refusedC x
 
 -- the bytes of a text, or refusal 12 where the output is shorter
 abbrev pub textC : List ℕ → List ℕ → HbAnswer

@@ -2,52 +2,18 @@
 ghost use mathlib.Core.Path.{_≡_};
 ghost use Rattle.book.specs.Book.{ours};
 ghost use Rattle.book.specs.History.{Make, Put, Remove, Ask, Clear, Replay, after};
-ghost use Rattle.hoardbutton.specs.Books.{why, spot, value, answerC, Leaves, Writes};
-use crate::frames::low;
+ghost use Rattle.hoardbutton.specs.Books.{answerC, Leaves, Writes};
+use crate::answers::HbAnswer;
+use crate::answers::done;
+use crate::answers::refused;
 use book::Answer;
-
-// Done, with the bytes written where a call writes; or a refusal with its place.
-#[repr(C)]
-pub struct HbAnswer {
-    pub refusal: u32,
-    pub place: u32,
-    pub value: u64,
-}
-
-fn why(a: Answer) -> u32
-    ensures { λ r. ⌜ r ≡ why a ⌝ }
-{
-    match a {
-        Answer::Done(_) => 0,
-        Answer::Refused(x) => x.number(),
-    }
-}
-
-fn spot(a: Answer) -> u64
-    ensures { λ r. ⌜ r ≡ spot a ⌝ }
-{
-    match a {
-        Answer::Done(_) => 0,
-        Answer::Refused(x) => x.place() as u64,
-    }
-}
-
-fn value(a: Answer) -> u64
-    ensures { λ r. ⌜ r ≡ value a ⌝ }
-{
-    match a {
-        Answer::Done(n) => n as u64,
-        Answer::Refused(_) => 0,
-    }
-}
 
 fn answered(a: Answer) -> HbAnswer
     ensures { λ r. ⌜ r ≡ answerC a ⌝ }
 {
-    HbAnswer {
-        refusal: why(a),
-        place: low(spot(a)),
-        value: value(a),
+    match a {
+        Answer::Done(n) => done(n as u64),
+        Answer::Refused(why) => refused(why),
     }
 }
 

@@ -3,7 +3,11 @@ ghost use mathlib.Core.Path.{_≡_};
 ghost use Rattle.codec.specs.Decoding.{decode, decoded};
 ghost use Rattle.codec.specs.Building.{checked, built};
 ghost use Rattle.codec.specs.Typed.{plainBy};
-ghost use Rattle.hoardbutton.specs.Frames.{low, whyFrame, whereFrame, longFrame, whyRead, whereRead, kindRead, frameC, decodedC};
+ghost use Rattle.hoardbutton.specs.Frames.{verdictC, kindC, frameC, decodedC};
+use crate::answers::HbAnswer;
+use crate::answers::done;
+use crate::answers::low;
+use crate::answers::refused;
 use codec::Answer;
 use codec::Built;
 use codec::Verdict;
@@ -27,64 +31,21 @@ pub struct HbDecoded {
     pub args: [u64; 9],
 }
 
-// The low 32 bits.
-pub(crate) fn low(x: u64) -> u32
-    ensures { λ r. ⌜ r ≡ low x ⌝ }
-{
-    (x % 0x1_0000_0000) as u32
-}
-
-fn why_frame(v: Verdict) -> u32
-    ensures { λ r. ⌜ r ≡ whyFrame v ⌝ }
+fn verdict_told(v: Verdict) -> HbAnswer
+    ensures { λ r. ⌜ r ≡ verdictC v ⌝ }
 {
     match v {
-        Verdict::Frame(_) => 0,
-        Verdict::Refused(why) => why.number(),
+        Verdict::Frame(n) => done(n as u64),
+        Verdict::Refused(why) => refused(why),
     }
 }
 
-fn where_frame(v: Verdict) -> u64
-    ensures { λ r. ⌜ r ≡ whereFrame v ⌝ }
-{
-    match v {
-        Verdict::Frame(_) => 0,
-        Verdict::Refused(why) => why.place() as u64,
-    }
-}
-
-fn long_frame(v: Verdict) -> u64
-    ensures { λ r. ⌜ r ≡ longFrame v ⌝ }
-{
-    match v {
-        Verdict::Frame(n) => n as u64,
-        Verdict::Refused(_) => 0,
-    }
-}
-
-fn why_read(a: Answer) -> u32
-    ensures { λ r. ⌜ r ≡ whyRead a ⌝ }
+fn kind_told(a: Answer) -> HbAnswer
+    ensures { λ r. ⌜ r ≡ kindC a ⌝ }
 {
     match a {
-        Answer::Kind(_) => 0,
-        Answer::Refused(why) => why.number(),
-    }
-}
-
-fn where_read(a: Answer) -> u64
-    ensures { λ r. ⌜ r ≡ whereRead a ⌝ }
-{
-    match a {
-        Answer::Kind(_) => 0,
-        Answer::Refused(why) => why.place() as u64,
-    }
-}
-
-fn kind_read(a: Answer) -> u64
-    ensures { λ r. ⌜ r ≡ kindRead a ⌝ }
-{
-    match a {
-        Answer::Kind(kind) => kind,
-        Answer::Refused(_) => 0,
+        Answer::Kind(kind) => done(kind),
+        Answer::Refused(why) => refused(why),
     }
 }
 
@@ -93,10 +54,11 @@ fn framed(b: Built) -> HbFrame
 {
     let bytes = b.bytes;
     let v = b.verdict;
+    let told = verdict_told(v);
     HbFrame {
-        refusal: why_frame(v),
-        place: low(where_frame(v)),
-        len: low(long_frame(v)),
+        refusal: told.refusal,
+        place: told.place,
+        len: low(told.value),
         bytes,
     }
 }
@@ -122,10 +84,11 @@ pub extern "C" fn hb_decode(frame: &[u8]) -> HbDecoded
     let d = codec::decode(frame);
     let args = d.args;
     let a = d.answer;
+    let said = kind_told(a);
     HbDecoded {
-        refusal: why_read(a),
-        place: low(where_read(a)),
-        kind: low(kind_read(a)),
+        refusal: said.refusal,
+        place: said.place,
+        kind: low(said.value),
         count: low(d.count as u64),
         args,
     }

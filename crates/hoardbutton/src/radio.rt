@@ -6,7 +6,7 @@ ghost use Rattle.cmd_lora.specs.Responses.{loraRxStatsRead, loraPacketStatusRea
 ghost use Rattle.cmd_fsk.specs.Responses.{fskRxStatsRead, fskPacketStatusRead};
 ghost use Rattle.cmd_common.specs.Responses.{rssiInstRead, timestampValueRead, ccaResultRead};
 ghost use Rattle.hoardbutton.specs.Radio.{statusC, loraRxStatsC, loraPacketStatusC, fskRxStatsC, fskPacketStatusC, rssiInstC, timestampValueC, ccaResultC};
-use crate::frames::low;
+use crate::answers::low;
 use cmd_common::rsp::CcaResultRead;
 use cmd_common::rsp::CcaResultRsp;
 use cmd_common::rsp::RssiInstRead;
@@ -24,7 +24,7 @@ use cmd_lora::rsp::LoraRxStatsRsp;
 use status::Intr;
 use status::Status;
 
-// The status word and what its bits say; the codes are document 01's numbers.
+// The status word and what its bits say (REFERENCE, "Status and interrupts").
 #[repr(C)]
 pub struct HbStatus {
     pub value: u16,

@@ -5,10 +5,13 @@ ghost use Rattle.rx_bw.specs.Width.{nameOf};
 ghost use Rattle.dump_text.specs.Whole.{filled};
 ghost use Rattle.hoardbutton.specs.Readings.{bwOf, hzC};
 ghost use Rattle.hoardbutton.specs.Reels.{textC};
-use crate::books::HbAnswer;
+use crate::answers::HbAnswer;
+use crate::answers::done;
+use crate::answers::refused;
 use cmd_lora::LoraBw;
 use reading::HalfDbm;
 use reading::QuarterDb;
+use refusal::Refusal;
 
 // The text to the front of the output, or refusal 12.
 fn written(text: &[u8], out: &mut [u8]) -> HbAnswer
@@ -17,17 +20,9 @@ fn written(text: &[u8], out: &mut [u8]) -> HbAnswer
     let n = text.len();
     if n <= out.len() {
         bytes::copy(text, out);
-        return HbAnswer {
-            refusal: 0,
-            place: 0,
-            value: n as u64,
-        };
+        return done(n as u64);
     }
-    HbAnswer {
-        refusal: 12,
-        place: 0,
-        value: 0,
-    }
+    refused(Refusal::OutputShort)
 }
 
 #[no_mangle]

@@ -4,7 +4,9 @@ ghost use Rattle.reel.specs.Reel.{stepAt};
 ghost use Rattle.dump_text.specs.Text.{textOf};
 ghost use Rattle.dump_text.specs.Whole.{filled};
 ghost use Rattle.hoardbutton.specs.Reels.{stepC, dumpC, textC};
-use crate::books::HbAnswer;
+use crate::answers::HbAnswer;
+use crate::answers::done;
+use crate::answers::refused;
 use dump_text::Dumped;
 use reel::Cursor;
 use reel::Step;
@@ -59,16 +61,8 @@ fn answered(d: Dumped) -> HbAnswer
     ensures { λ r. ⌜ r ≡ dumpC d ⌝ }
 {
     match d {
-        Dumped::Text(n) => HbAnswer {
-            refusal: 0,
-            place: 0,
-            value: n as u64,
-        },
-        Dumped::Refused(why) => HbAnswer {
-            refusal: why.number(),
-            place: 0,
-            value: 0,
-        },
+        Dumped::Text(n) => done(n as u64),
+        Dumped::Refused(why) => refused(why),
     }
 }
 

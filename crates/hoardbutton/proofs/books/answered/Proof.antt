@@ -5,5 +5,8 @@ use Rattle.hoardbutton.proofs.books.answered.Tie as tie
 returns : tie.Need-returns
 returns c = cc
 
+returns-2 : tie.Need-returns-2
+returns-2 c = cc
+
 pub answered-spec : {M : Type 1} → statement M
-answered-spec = tie.close (tie.spec (λ c κs. search needs) (λ c κs. search needs) (λ c κs. search needs) (λ c κs. search needs) returns)
+answered-spec = tie.close (tie.spec (λ c. search needs) (λ c κs. search needs) (λ c. search needs) (λ c κs. search needs) returns returns-2)

@@ -6,4 +6,4 @@ returns : tie.Need-returns
 returns c = cc
 
 pub framed-spec : {M : Type 1} → statement M
-framed-spec = tie.close (tie.spec (λ c κs. search needs) (λ c κs. search needs) (λ c κs. search needs) (λ c κs. search needs) (λ c κs. search needs) returns)
+framed-spec = tie.close (tie.spec (λ c κs. search needs) (λ c κs. search needs) returns)

@@ -6,4 +6,4 @@ returns : tie.Need-returns
 returns c = cc
 
 pub hb-decode-spec : {M : Type 1} → statement M
-hb-decode-spec = tie.close (tie.spec (λ c κs. search needs) (λ c κs. search needs) (λ c κs. search needs) (λ c κs. search needs) (λ c κs. search needs) (λ c κs. search needs) (λ c κs. search needs) returns)
+hb-decode-spec = tie.close (tie.spec (λ c κs. search needs) (λ c κs. search needs) (λ c κs. search needs) (λ c κs. search needs) returns)
