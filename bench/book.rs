@@ -1,4 +1,4 @@
-// The settings book in the Rust that one would write by hand from document 01: a lent buffer, judged whole at each call. bench/run compares
+// The settings book in the Rust that one would write by hand from the reference: a lent buffer, judged whole at each call. bench/run compares
 // the port's book with it.
 use crate::decoder::decode;
 

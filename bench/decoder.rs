@@ -1,4 +1,4 @@
-// A decoder in the Rust that one would write by hand from document 01: a match on opcode and length, the bits that no field holds, the codes,
+// A decoder in the Rust that one would write by hand from the reference: a match on opcode and length, the bits that no field holds, the codes,
 // the arguments. bench/run compares the port's decoder with it.
 pub struct Decoded {
     pub refusal: u8,

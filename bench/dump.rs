@@ -1,4 +1,4 @@
-// A dump in the Rust that one would write by hand from document 01: buffered, over C's calls, since a program with std does not start under
+// A dump in the Rust that one would write by hand from the reference: buffered, over C's calls, since a program with std does not start under
 // the kit's emulator. bench/run compares the program `dump` with it.
 #![no_std]
 

@@ -1,14 +1,14 @@
 /* Hoardbutton for C: frames of the LR2021 radio, its status and responses, a settings book in a lent buffer, reels and dumps.
  *
- * Every function answers every input; none traps, allocates, keeps a pointer or touches a global. A refusal is a number of document 01,
- * 0 where there is none, and a refused call alters no buffer that it was lent. A caller owes two things: a pointer has as many elements
- * as its length says (it may be null where that is 0), and buffers lent to one call do not overlap.
+ * Every function answers every input; none traps, allocates, keeps a pointer or touches a global, so all may be called from several threads
+ * and from an interrupt at the same time, as long as no buffer is written by one call while another has it. A refusal is one of
+ * HB_REFUSED_.., 0 where there is none; a refused call alters no buffer that it was lent, and all else in its answer is 0 but the place. A
+ * caller owes two things: a pointer has as many elements as its length says (it may be null where that is 0), and buffers lent to one call
+ * do not overlap.
  *
- * Refusals: 1 frame under 2 bytes; 2 opcode not in the table; 3 length not one of that opcode's; 4 a bit that no field holds is set;
- * 5 a field holds a code its enum lacks; 6 argument outside its range; 7 response length not the stated one; 8 no room in the book;
- * 9 kind not held; 10 book not well formed; 11 buffer not 62 to 4,096 bytes; 12 output shorter than needed; 13 kind not a setting, or
- * not 1 to 39; 14 reel ends inside a frame, or the place is past its end. The place is a byte of the frame from 0 (4, 5) or an
- * argument from 1 (6), and else 0. */
+ * A kind is a command's number, HB_SET_RF_FREQUENCY and so on. A frame is the bytes of one command. Settings are the kinds that a book
+ * keeps; the others are actions. docs/REFERENCE.md has the bytes of all. The constants here come from docs/commands.json by
+ * docs/make_reference.py. */
 #ifndef HOARDBUTTON_H
 #define HOARDBUTTON_H
 
@@ -20,31 +20,584 @@
 extern "C" {
 #endif
 
+/* ---- sizes */
+
+/* from commands.json: sizes */
+#define HB_KINDS 39 /* kinds of commands; a kind is a number from 1 */
+#define HB_SETTINGS 29 /* of them settings, which a book keeps */
+#define HB_FRAME_MAX 12 /* bytes of the longest frame (kind 6) */
+#define HB_ARGS_MAX 9 /* arguments of the kinds that have most (6 and 17) */
+#define HB_BOOK_MIN 62 /* bytes of the smallest book, which holds no frame */
+#define HB_BOOK_MAX 4096 /* bytes of the largest buffer that a book may have */
+#define HB_BOOK_ALL 246 /* bytes of a book that holds all 29 settings at once */
+#define HB_REPLAY_MAX 213 /* bytes of the replay of all 29 settings */
+#define HB_LEVEL_TEXT_MAX 8 /* bytes of the longest text of a level (-32767.5) */
+#define HB_SNR_TEXT_MAX 6 /* bytes of the longest text of a ratio (-32.00) */
+#define HB_DUMP_LINE_MAX 64 /* bytes of the longest line of a dump with its newline (kind 6, an index of 20 digits) */
+#define HB_DUMP_BYTE_MAX 28 /* bytes of text at most for each byte of a reel (a cut frame of one byte, an index of 20 digits) */
+/* end: sizes */
+
+/* An output of so many bytes takes the dump of any reel of n bytes. */
+#define HB_DUMP_MAX(n) (HB_DUMP_BYTE_MAX * (n))
+
+/* ---- refusals: each with what it says; the place is 0 but for 4, 5 and 6 */
+
+/* from commands.json: refusals */
+#define HB_REFUSED_SHORT_FRAME 1 /* a frame has fewer than two bytes */
+#define HB_REFUSED_UNKNOWN_OPCODE 2 /* no command has the frame's opcode */
+#define HB_REFUSED_WRONG_LENGTH 3 /* its opcode is known, but no command with that opcode has the frame's length */
+#define HB_REFUSED_STRAY_BIT 4 /* a bit is set that belongs to none of the command's arguments; place: the lowest such byte of the frame, from 0 */
+#define HB_REFUSED_UNKNOWN_CODE 5 /* an argument's bits are no code of its enum; place: the lowest such byte of the frame, from 0 */
+#define HB_REFUSED_ARGUMENT_OUTSIDE 6 /* an argument is missing, surplus, or not one that its builder takes; place: the first such argument, from 1 */
+#define HB_REFUSED_RESPONSE_LENGTH 7 /* a response has not its length */
+#define HB_REFUSED_NO_ROOM 8 /* the frames of the book would end behind its buffer */
+#define HB_REFUSED_NOT_HELD 9 /* the book has no frame of that kind */
+#define HB_REFUSED_NOT_WELL_FORMED 10 /* the bytes are no well formed book */
+#define HB_REFUSED_BUFFER_SIZE 11 /* the book's buffer is shorter than 62 bytes or longer than 4,096 */
+#define HB_REFUSED_OUTPUT_SHORT 12 /* the output is too short for what has to be written */
+#define HB_REFUSED_NOT_A_KIND 13 /* there is no such kind, or the book was given an action */
+#define HB_REFUSED_REEL_CUT 14 /* the reel ends inside a frame, or the place is behind its end */
+/* end: refusals */
+
+/* ---- kinds: each with its arguments in their order. A code is one of the constants named, a yes is 1 and a no is 0; hb_plain takes any
+ * number where hb_checked takes a range. */
+
+/* from commands.json: kinds */
+/* Sets the modulation of LoRa packets. If the packet type is not LoRa, the next command's status is Fail.
+ *   sf           HB_SF_..           spreading factor
+ *   lora_bw      HB_LORA_BW_..      width
+ *   lora_cr      HB_LORA_CR_..      coding rate
+ *   ldro         HB_LDRO_..         low data rate optimisation
+ *   lora_filter  HB_LORA_FILTER_..  extra filter for the fractional widths */
+#define HB_SET_LORA_MODULATION_PARAMS 1
+
+/* Sets the shape of LoRa packets.
+ *   pbl_len      0 to 65535         length of the preamble, in symbols
+ *   payload_len  0 to 255           length of the payload, in bytes
+ *   header_type  HB_HEADER_TYPE_..  whether a packet carries a header
+ *   crc_en       1 or 0             whether a packet carries a CRC
+ *   invert_iq    1 or 0             whether I and Q change places */
+#define HB_SET_LORA_PACKET_PARAMS 2
+
+/* Sets for how long the LoRa modem looks for a signal.
+ *   symbols         0 to 255              0 for ever; else a count, or with Float a mantissa m (bits 4-0) and an exponent e (bits 7-5), m
+ *                                         times 2^(2e+1), in symbols
+ *   timeout_format  HB_TIMEOUT_FORMAT_..  how symbols is written */
+#define HB_SET_LORA_SYNCH_TIMEOUT 3
+
+/* Sets the LoRa sync word.
+ *   syncword  0 to 255  0x12 in private networks, which is also the radio's default; 0x34 in public ones */
+#define HB_SET_LORA_SYNCWORD 4
+
+/* Configures the phase modulation of the LoRa preamble.
+ *   pmod_en         1 or 0         whether the preamble is phase modulated
+ *   dram_ret        0 to 7         what memory the radio keeps while it sleeps
+ *   wakeup_time     0 to 65535     time to wake up
+ *   min_sleep_time  0 to 16777215  least time to sleep */
+#define HB_CONFIG_LORA_PREAMBLE_MODULATION 5
+
+/* Kind 5 with its detection tuned.
+ *   pmod_en          1 or 0         whether the preamble is phase modulated
+ *   dram_ret         0 to 7         what memory the radio keeps while it sleeps
+ *   wakeup_time      0 to 65535     time to wake up
+ *   min_sleep_time   0 to 16777215  least time to sleep
+ *   err_thr          0 to 127       threshold on errors
+ *   min_sym          0 to 15        least length, in symbols
+ *   detect_time_sym  0 to 15        time to detect, in symbols
+ *   start_offset     0 to 255
+ *   end_offset       0 to 255 */
+#define HB_CONFIG_LORA_PREAMBLE_MODULATION_ADV 6
+
+/* Sets how LoRa channel activity is detected.
+ *   nb_symbols  0 to 255                  how long it looks, in symbols
+ *   pbl_any     1 or 0
+ *   pnr_delta   0 to 15
+ *   exit_mode   HB_LORA_CAD_EXIT_MODE_..  what follows the detection
+ *   timeout     0 to 16777215             time-out of what follows
+ *   det_peak    0 to 255 */
+#define HB_SET_LORA_CAD_PARAMS 7
+
+/* An action. Starts the LoRa channel activity detection that kind 7 set. No arguments. */
+#define HB_SET_LORA_CAD 8
+
+/* An action. Asks for LoraRxStatsRsp. Its counters go back to 0 at power-on, after a sleep without memory, and on the radio's reset
+ * command. No arguments. */
+#define HB_GET_LORA_RX_STATS 9
+
+/* An action. Asks for LoraPacketStatusRsp. It is renewed at the end of a reception or of a detection. No arguments. */
+#define HB_GET_LORA_PACKET_STATUS 10
+
+/* Sets the address by which LoRa packets are filtered.
+ *   addr_len  HB_ADDR_LEN_..  how many bytes are compared
+ *   addr_pos  0 to 15         where the address stands in the payload
+ *   addr      any number      the address */
+#define HB_SET_LORA_ADDRESS 11
+
+/* Sets all ten bits of the LoRa sync word.
+ *   sync1  0 to 31  first half
+ *   sync2  0 to 31  second half */
+#define HB_SET_LORA_SYNCWORD_EXTENDED 12
+
+/* Sets all ten bits of the sync words of the three side detectors.
+ *   sd1_sw1  0 to 31  detector 1, first half
+ *   sd1_sw2  0 to 31  detector 1, second half
+ *   sd2_sw1  0 to 31  detector 2, first half
+ *   sd2_sw2  0 to 31  detector 2, second half
+ *   sd3_sw1  0 to 31  detector 3, first half
+ *   sd3_sw2  0 to 31  detector 3, second half */
+#define HB_SET_LORA_SIDE_DET_SYNCWORD_EXTENDED 13
+
+/* Synchronizes LoRa transmissions by a DIO pin.
+ *   timing_sync_mode  HB_TIMING_SYNC_MODE_..  the radio's part in it
+ *   dio_num           0 to 15                 the pin; the Rust has 5 to 11 */
+#define HB_SET_LORA_TX_SYNC 14
+
+/* Sets the blanking of the LoRa receiver. It shares its opcode with kind 14.
+ *   thr_gain  0 to 3
+ *   thr       0 to 15
+ *   lvl_gain  0 to 3
+ *   detect    1 or 0
+ *   rssi_thr  0 to 15  threshold on the RSSI */
+#define HB_SET_LORA_BLANKING 15
+
+/* Sets the modulation of FSK packets. If the packet type is not FSK, the next command's status is Fail.
+ *   bitrate      0 to 4294967295    bit rate, in bit/s
+ *   pulse_shape  HB_PULSE_SHAPE_..  filter of the pulses
+ *   rx_bw        HB_RX_BW_..        receive width
+ *   fdev         0 to 16777215      frequency deviation, in Hz */
+#define HB_SET_FSK_MODULATION_PARAMS 16
+
+/* Sets the shape of FSK packets; fails if the packet type is not FSK.
+ *   pbl_len_tx      0 to 65535                                    length of the preamble that is sent, in bits
+ *   pbl_len_detect  HB_PBL_LEN_DETECT_..                          length of preamble that counts as detected
+ *   pbl_long        1 or 0
+ *   pld_len_unit    HB_PLD_LEN_UNIT_BYTES only, but for hb_plain  unit of pld_len; it shares its bit with pbl_long
+ *   addr_comp       HB_ADDR_COMP_..                               which addresses are compared
+ *   fsk_pkt_format  HB_FSK_PKT_FORMAT_..                          whether and how a packet tells its length
+ *   pld_len         0 to 65535                                    length of the payload, in pld_len_unit
+ *   crc             HB_CRC_..                                     CRC of a packet
+ *   dc_free         1 or 0 */
+#define HB_SET_FSK_PACKET_PARAMS 17
+
+/* Sets the whitening of FSK packets.
+ *   whiten_type  HB_WHITEN_TYPE_..  whose whitening
+ *   init         0 to 4095          start value; its upper bits share byte 2 with whiten_type */
+#define HB_SET_FSK_WHITENING_PARAMS 18
+
+/* Sets the CRC of FSK packets.
+ *   polynom  0 to 4294967295  polynomial
+ *   init     0 to 4294967295  start value */
+#define HB_SET_FSK_CRC_PARAMS 19
+
+/* Sets the FSK sync word.
+ *   syncword   any number       the sync word
+ *   bit_order  HB_BIT_ORDER_..  which bit goes first over the air
+ *   nb_bits    0 to 127         its length, in bits */
+#define HB_SET_FSK_SYNC_WORD 20
+
+/* Sets the addresses by which FSK packets are filtered.
+ *   addr_node   0 to 255  the node's own
+ *   addr_bcast  0 to 255  that of all */
+#define HB_SET_FSK_ADDRESS 21
+
+/* An action. Asks for FskRxStatsRsp. No arguments. */
+#define HB_GET_FSK_RX_STATS 22
+
+/* An action. Asks for FskPacketStatusRsp. It is renewed at the end of a reception, rssi_sync already at the sync word. No arguments. */
+#define HB_GET_FSK_PACKET_STATUS 23
+
+/* Sets the radio frequency. It has no effect while the radio transmits.
+ *   rf_freq  0 to 4294967295  the frequency, in Hz */
+#define HB_SET_RF_FREQUENCY 24
+
+/* Chooses the receive path.
+ *   rx_path  HB_RX_PATH_..  input of the receiver */
+#define HB_SET_RX_PATH 25
+
+/* Chooses the receive path and its boost. A new boost makes the radio calibrate its ADC offset again.
+ *   rx_path   HB_RX_PATH_..   input of the receiver
+ *   rx_boost  HB_RX_BOOST_..  boost of the receiver */
+#define HB_SET_RX_PATH_ADV 26
+
+/* Chooses and configures a power amplifier.
+ *   pa_sel            HB_PA_SEL_..      which amplifier
+ *   pa_lf_mode        HB_PA_LF_MODE_..  mode of the low frequency amplifier; 0 where it is not used
+ *   pa_lf_duty_cycle  0 to 7            duty cycle of the low frequency amplifier; its top bit is that of pa_sel
+ *   pa_lf_slices      0 to 15           slices of the low frequency amplifier */
+#define HB_SET_PA_CONFIG 27
+
+/* Kind 27, with the high frequency amplifier.
+ *   pa_sel            HB_PA_SEL_..      which amplifier
+ *   pa_lf_mode        HB_PA_LF_MODE_..  mode of the low frequency amplifier; 0 where it is not used
+ *   pa_lf_duty_cycle  0 to 7            duty cycle of the low frequency amplifier; its top bit is that of pa_sel
+ *   pa_lf_slices      0 to 15           slices of the low frequency amplifier
+ *   pa_hf_duty_cycle  0 to 31           duty cycle of the high frequency amplifier */
+#define HB_SET_PA_CONFIG_ADV 28
+
+/* An action. Receives.
+ *   rx_timeout  0 to 16777215  longest time to receive, 512 s at most, in steps of 1/32.768 kHz */
+#define HB_SET_RX_ADV 29
+
+/* An action. Transmits.
+ *   tx_timeout  0 to 16777215  longest time to transmit, 512 s at most, in steps of 1/32.768 kHz */
+#define HB_SET_TX_ADV 30
+
+/* Selects a power amplifier that kind 27 or 28 has configured. It has no effect while the radio transmits.
+ *   pa_sel  HB_PA_SEL_..  which amplifier */
+#define HB_SEL_PA 31
+
+/* An action. Receives once in each cycle.
+ *   rx_max_time   0 to 16777215  how long it listens
+ *   cycle_time    0 to 16777215  length of a cycle
+ *   use_lora_cad  1 or 0         whether it listens by a LoRa channel activity detection
+ *   dram_ret      0 to 7         what memory the radio keeps while it sleeps */
+#define HB_SET_RX_DUTY_CYCLE 32
+
+/* Makes the radio receive by itself after each transmission, or transmit after each reception.
+ *   clear           1 or 0
+ *   auto_txrx_mode  HB_AUTO_TXRX_MODE_..  when it turns
+ *   timeout         0 to 16777215         time-out of what follows
+ *   delay           0 to 4294967295       how long it waits before */
+#define HB_SET_AUTO_RX_TX 33
+
+/* Sets the time-outs for receptions and transmissions that bring none, as those that a pin triggers.
+ *   rx_timeout  0 to 16777215  longest time to receive, 512 s at most, in steps of 1/32.768 kHz
+ *   tx_timeout  0 to 16777215  longest time to transmit, 512 s at most, in steps of 1/32.768 kHz */
+#define HB_SET_DEFAULT_RX_TX_TIMEOUT 34
+
+/* Sets the event that one of the three time stamps marks.
+ *   timestamp_index   HB_TIMESTAMP_INDEX_..   which time stamp
+ *   timestamp_source  HB_TIMESTAMP_SOURCE_..  the event */
+#define HB_SET_TIMESTAMP_SOURCE 35
+
+/* An action. Measures the RSSI, to tell whether the channel is clear.
+ *   duration  0 to 16777215  how long it measures */
+#define HB_SET_CCA 36
+
+/* An action. Kind 36 at a gain of one's own.
+ *   duration  0 to 16777215  how long it measures
+ *   gain      0 to 255       the gain */
+#define HB_SET_CCA_ADV 37
+
+/* Sets the receiver's gain.
+ *   gain_step  0 to 15  0 leaves it to the radio */
+#define HB_SET_AGC_GAIN_MANUAL 38
+
+/* Sets how the RSSI tells channel activity, for packet types other than LoRa.
+ *   cad_timeout  0 to 16777215        how long it looks
+ *   threshold    0 to 255             RSSI from which a channel is active
+ *   exit_mode    HB_CAD_EXIT_MODE_..  what follows the detection
+ *   trx_timeout  0 to 16777215        time-out of what follows */
+#define HB_SET_CAD_PARAMS 39
+/* end: kinds */
+
+/* ---- codes of the enums */
+
+/* from commands.json: codes */
+/* Spreading factor: 2^n chips a symbol. */
+#define HB_SF_5 5
+#define HB_SF_6 6
+#define HB_SF_7 7
+#define HB_SF_8 8
+#define HB_SF_9 9
+#define HB_SF_10 10
+#define HB_SF_11 11
+#define HB_SF_12 12
+
+/* LoRa width in kHz, without its fraction. */
+#define HB_LORA_BW_7 0
+#define HB_LORA_BW_15 1
+#define HB_LORA_BW_31 2
+#define HB_LORA_BW_62 3
+#define HB_LORA_BW_125 4
+#define HB_LORA_BW_250 5
+#define HB_LORA_BW_500 6
+#define HB_LORA_BW_1000 7
+#define HB_LORA_BW_10 8
+#define HB_LORA_BW_20 9
+#define HB_LORA_BW_41 10
+#define HB_LORA_BW_83 11
+#define HB_LORA_BW_101 12
+#define HB_LORA_BW_203 13
+#define HB_LORA_BW_406 14
+#define HB_LORA_BW_812 15
+
+/* LoRa coding rate: its Hamming (Ham) or convolutional (Cc) code, with short (Si) or long (Li) interleaving. */
+#define HB_LORA_CR_NO_CODING 0
+#define HB_LORA_CR_CR1_HAM45_SI 1
+#define HB_LORA_CR_CR2_HAM23_SI 2
+#define HB_LORA_CR_CR3_HAM47_SI 3
+#define HB_LORA_CR_CR4_HAM12_SI 4
+#define HB_LORA_CR_CR5_HAM45_LI 5
+#define HB_LORA_CR_CR6_HAM23_LI 6
+#define HB_LORA_CR_CR7_HAM12_LI 7
+#define HB_LORA_CR_CR8_CC23 8
+#define HB_LORA_CR_CR9_CC12 9
+
+/* Low data rate optimisation: bears more drift of the clock at high spreading factors. */
+#define HB_LDRO_OFF 0
+#define HB_LDRO_ON 1
+
+/* Extra filter for the fractional LoRa widths. */
+#define HB_LORA_FILTER_AUTO 0
+#define HB_LORA_FILTER_CHF 1
+#define HB_LORA_FILTER_DCC 2
+#define HB_LORA_FILTER_DCC_F 3
+
+/* Whether a LoRa packet carries its own header. */
+#define HB_HEADER_TYPE_EXPLICIT 0
+#define HB_HEADER_TYPE_IMPLICIT 1
+
+/* How a number of symbols is written: as a count, or as mantissa and exponent (kind 3). */
+#define HB_TIMEOUT_FORMAT_INTEGER 0
+#define HB_TIMEOUT_FORMAT_FLOAT 1
+
+/* What follows a LoRa channel activity detection. */
+#define HB_LORA_CAD_EXIT_MODE_ONLY 0
+#define HB_LORA_CAD_EXIT_MODE_RX 1
+#define HB_LORA_CAD_EXIT_MODE_LBT 16
+
+/* How many bytes of a LoRa address are compared. */
+#define HB_ADDR_LEN_NONE 0
+#define HB_ADDR_LEN_1B 1
+#define HB_ADDR_LEN_2B 2
+#define HB_ADDR_LEN_3B 3
+#define HB_ADDR_LEN_4B 4
+#define HB_ADDR_LEN_5B 5
+#define HB_ADDR_LEN_6B 6
+#define HB_ADDR_LEN_7B 7
+#define HB_ADDR_LEN_8B 8
+
+/* The radio's part in a synchronized transmission. */
+#define HB_TIMING_SYNC_MODE_DISABLED 0
+#define HB_TIMING_SYNC_MODE_INITIATOR 1
+#define HB_TIMING_SYNC_MODE_RESPONDER 2
+
+/* Filter of FSK pulses: Gaussian (Bt), raised cosine (Rc), root raised cosine (Rrc). */
+#define HB_PULSE_SHAPE_NONE 0
+#define HB_PULSE_SHAPE_CUSTOM 1
+#define HB_PULSE_SHAPE_BT0P3 4
+#define HB_PULSE_SHAPE_BT0P5 5
+#define HB_PULSE_SHAPE_BT0P7 6
+#define HB_PULSE_SHAPE_BT1P0 7
+#define HB_PULSE_SHAPE_BT2P0 2
+#define HB_PULSE_SHAPE_RC0P3 8
+#define HB_PULSE_SHAPE_RC0P5 9
+#define HB_PULSE_SHAPE_RC0P7 10
+#define HB_PULSE_SHAPE_RC1P0 11
+#define HB_PULSE_SHAPE_RRC0P3 12
+#define HB_PULSE_SHAPE_RRC0P4 3
+#define HB_PULSE_SHAPE_RRC0P5 13
+#define HB_PULSE_SHAPE_RRC0P7 14
+#define HB_PULSE_SHAPE_RRC1P0 15
+
+/* Receive width in kHz, with p for the decimal point; Auto leaves it to the radio. */
+#define HB_RX_BW_AUTO 255
+#define HB_RX_BW_3076 0
+#define HB_RX_BW_2857 64
+#define HB_RX_BW_2666 128
+#define HB_RX_BW_2222 192
+#define HB_RX_BW_1333 136
+#define HB_RX_BW_1111 200
+#define HB_RX_BW_888 144
+#define HB_RX_BW_769 24
+#define HB_RX_BW_740 208
+#define HB_RX_BW_714 88
+#define HB_RX_BW_666 152
+#define HB_RX_BW_615 32
+#define HB_RX_BW_571 96
+#define HB_RX_BW_555 216
+#define HB_RX_BW_533 160
+#define HB_RX_BW_512 17
+#define HB_RX_BW_476 81
+#define HB_RX_BW_444 224
+#define HB_RX_BW_384 25
+#define HB_RX_BW_370 209
+#define HB_RX_BW_357 89
+#define HB_RX_BW_333 153
+#define HB_RX_BW_307 33
+#define HB_RX_BW_285 97
+#define HB_RX_BW_277 217
+#define HB_RX_BW_266 161
+#define HB_RX_BW_256 18
+#define HB_RX_BW_238 82
+#define HB_RX_BW_222 225
+#define HB_RX_BW_192 26
+#define HB_RX_BW_185 210
+#define HB_RX_BW_178 90
+#define HB_RX_BW_166 154
+#define HB_RX_BW_153 34
+#define HB_RX_BW_142 98
+#define HB_RX_BW_138 218
+#define HB_RX_BW_133 162
+#define HB_RX_BW_128 19
+#define HB_RX_BW_119 83
+#define HB_RX_BW_111 226
+#define HB_RX_BW_96 27
+#define HB_RX_BW_92 211
+#define HB_RX_BW_89 91
+#define HB_RX_BW_83 155
+#define HB_RX_BW_76 35
+#define HB_RX_BW_71 99
+#define HB_RX_BW_69 219
+#define HB_RX_BW_66 163
+#define HB_RX_BW_64 20
+#define HB_RX_BW_59 84
+#define HB_RX_BW_55 227
+#define HB_RX_BW_48 28
+#define HB_RX_BW_46 212
+#define HB_RX_BW_44 92
+#define HB_RX_BW_41 156
+#define HB_RX_BW_38 36
+#define HB_RX_BW_35 100
+#define HB_RX_BW_34 220
+#define HB_RX_BW_33 164
+#define HB_RX_BW_32 21
+#define HB_RX_BW_29 85
+#define HB_RX_BW_27 228
+#define HB_RX_BW_24 29
+#define HB_RX_BW_23 213
+#define HB_RX_BW_22 93
+#define HB_RX_BW_20 157
+#define HB_RX_BW_19 37
+#define HB_RX_BW_17 101
+#define HB_RX_BW_16 165
+#define HB_RX_BW_14 86
+#define HB_RX_BW_13 229
+#define HB_RX_BW_12 30
+#define HB_RX_BW_11 94
+#define HB_RX_BW_10 158
+#define HB_RX_BW_9P6 38
+#define HB_RX_BW_8P9 102
+#define HB_RX_BW_8P7 222
+#define HB_RX_BW_8P3 166
+#define HB_RX_BW_8 23
+#define HB_RX_BW_7P4 87
+#define HB_RX_BW_6P9 230
+#define HB_RX_BW_6 31
+#define HB_RX_BW_5P8 215
+#define HB_RX_BW_5P6 95
+#define HB_RX_BW_5P2 159
+#define HB_RX_BW_4P8 39
+#define HB_RX_BW_4P5 103
+#define HB_RX_BW_4P3 223
+#define HB_RX_BW_4P2 167
+#define HB_RX_BW_3P5 231
+
+/* How much preamble counts as detected; with None the sync word alone does, and no interrupt tells of a preamble. */
+#define HB_PBL_LEN_DETECT_NONE 0
+#define HB_PBL_LEN_DETECT_LEN8_BITS 8
+#define HB_PBL_LEN_DETECT_LEN16_BITS 16
+#define HB_PBL_LEN_DETECT_LEN24_BITS 24
+#define HB_PBL_LEN_DETECT_LEN32_BITS 32
+
+/* Unit of the payload's length. */
+#define HB_PLD_LEN_UNIT_BYTES 0
+#define HB_PLD_LEN_UNIT_BITS 1
+
+/* Which addresses are compared; a packet for another one is not received. */
+#define HB_ADDR_COMP_OFF 0
+#define HB_ADDR_COMP_NODE 1
+#define HB_ADDR_COMP_NODE_BCAST 2
+
+/* Whether a packet has a fixed length, or tells it in so many bits. */
+#define HB_FSK_PKT_FORMAT_FIXED_LENGTH 0
+#define HB_FSK_PKT_FORMAT_VARIABLE8BIT 1
+#define HB_FSK_PKT_FORMAT_VARIABLE9BIT 2
+#define HB_FSK_PKT_FORMAT_VARIABLE16BIT 3
+
+/* Length of the CRC in bytes, and whether it is inverted. */
+#define HB_CRC_OFF 0
+#define HB_CRC_1_BYTE 1
+#define HB_CRC_2_BYTE 2
+#define HB_CRC_3_BYTE 3
+#define HB_CRC_4_BYTE 4
+#define HB_CRC_1_BYTE_INV 9
+#define HB_CRC_2_BYTE_INV 10
+#define HB_CRC_3_BYTE_INV 11
+#define HB_CRC_4_BYTE_INV 12
+
+/* Whose whitening an FSK packet follows. */
+#define HB_WHITEN_TYPE_SX126X_LR11XX 0
+#define HB_WHITEN_TYPE_SX128X 1
+
+/* Which bit of the sync word goes first over the air; MsbFirst is that of SX126x, LR11xx and SX1280. */
+#define HB_BIT_ORDER_LSB_FIRST 0
+#define HB_BIT_ORDER_MSB_FIRST 1
+
+/* Input of the receiver: low or high frequency. */
+#define HB_RX_PATH_LF_PATH 0
+#define HB_RX_PATH_HF_PATH 1
+
+/* Boost of the receiver. */
+#define HB_RX_BOOST_OFF 0
+#define HB_RX_BOOST_B1 1
+#define HB_RX_BOOST_B2 2
+#define HB_RX_BOOST_B3 3
+#define HB_RX_BOOST_B4 4
+#define HB_RX_BOOST_B5 5
+#define HB_RX_BOOST_B6 6
+#define HB_RX_BOOST_MAX 7
+
+/* Power amplifier: low or high frequency. */
+#define HB_PA_SEL_LF_PA 0
+#define HB_PA_SEL_HF_PA 1
+
+/* Mode of the low frequency power amplifier. */
+#define HB_PA_LF_MODE_FSM 0
+#define HB_PA_LF_MODE_FDM 1
+#define HB_PA_LF_MODE_HSM_RFO1 2
+#define HB_PA_LF_MODE_HSM_RFO2 3
+
+/* When the radio turns by itself. */
+#define HB_AUTO_TXRX_MODE_DISABLE 0
+#define HB_AUTO_TXRX_MODE_ALWAYS 1
+#define HB_AUTO_TXRX_MODE_RX_OK 2
+
+/* Which of three time stamps. */
+#define HB_TIMESTAMP_INDEX_0 0
+#define HB_TIMESTAMP_INDEX_1 1
+#define HB_TIMESTAMP_INDEX_2 2
+
+/* The event that a time stamp marks. */
+#define HB_TIMESTAMP_SOURCE_NONE 0
+#define HB_TIMESTAMP_SOURCE_TX_DONE 1
+#define HB_TIMESTAMP_SOURCE_RX_DONE 2
+#define HB_TIMESTAMP_SOURCE_SYNC 3
+#define HB_TIMESTAMP_SOURCE_HEADER 4
+
+/* What follows a channel activity detection of other packet types than LoRa. */
+#define HB_CAD_EXIT_MODE_FALLBACK 0
+#define HB_CAD_EXIT_MODE_TX 1
+#define HB_CAD_EXIT_MODE_RX 2
+/* end: codes */
+
 /* ---- frames */
 
 /* A frame: its first len bytes, zeros behind them. On a refusal len and bytes are 0. */
 typedef struct hb_frame {
     uint32_t refusal, place, len;
-    uint8_t bytes[12];
+    uint8_t bytes[HB_FRAME_MAX];
 } hb_frame;
 
-/* The frame of a kind, 1 to 39, for its arguments in the Rust's order: enums by code, yes or no as 1 or 0. Numbers are masked to their
- * field. Refuses what the typed builder could not be called with: 13 the kind, 6 a missing or surplus argument or an enum's code. */
+/* The frame of a kind for its arguments, as they stand at the kind's constant. A number is cut to its bits, and arguments that share bits are
+ * ORed, as the radio's Rust driver does. Refuses 13, 6: no such kind; an argument that is missing, surplus, no code, or neither 1 nor 0. */
 hb_frame hb_plain(uint64_t kind, const uint64_t *args, size_t n);
 
-/* The same, refusing (6) every argument that its field or enum lacks. Such a frame decodes to the same kind and arguments. */
+/* The same, but an argument outside its range is refused too. Such a frame decodes to the same kind and arguments. Refuses 13, 6. */
 hb_frame hb_checked(uint64_t kind, const uint64_t *args, size_t n);
 
 /* A frame's kind and its first count arguments, zeros behind them. On a refusal kind, count and args are 0. */
 typedef struct hb_decoded {
     uint32_t refusal, place, kind, count;
-    uint64_t args[9];
+    uint64_t args[HB_ARGS_MAX];
 } hb_decoded;
 
-/* What a frame says. Refuses 1 to 5. */
+/* What a frame says. Refuses 1, 2, 3, 4, 5. */
 hb_decoded hb_decode(const uint8_t *frame, size_t len);
 
-/* ---- the settings book: the last frame of each setting, in order of first entry, in a buffer of 62 to 4,096 bytes */
+/* ---- the settings book: the last frame of each setting, in order of first entry, in a buffer of HB_BOOK_MIN to HB_BOOK_MAX bytes. One of
+ * HB_BOOK_ALL bytes never lacks room. */
 
 /* A call's answer: value is the bytes written where a call writes, and else 0. */
 typedef struct hb_answer {
@@ -55,37 +608,65 @@ typedef struct hb_answer {
 /* Makes an empty book, whatever bytes stood there. Refuses 11. */
 hb_answer hb_book_make(uint8_t *book, size_t len);
 
-/* Puts a setting's frame in the place of the one held, or behind all others. Refuses 11, 10, 1 to 5, 13, 8. */
+/* Puts a setting's frame in the place of the one held, or behind all others. Refuses 11, 10, 1, 2, 3, 4, 5, 13, 8. */
 hb_answer hb_book_put(uint8_t *book, size_t len, const uint8_t *frame, size_t frame_len);
 
 /* Takes a kind's frame out; its room is free. Refuses 11, 10, 13, 9. */
 hb_answer hb_book_remove(uint8_t *book, size_t len, uint64_t kind);
 
-/* Writes a kind's frame to the front of out, and keeps the rest of it. Refuses 11, 10, 13, 9, 12. */
+/* Writes a kind's frame, at most HB_FRAME_MAX bytes, to the front of out, and keeps the rest of it. Refuses 11, 10, 13, 9, 12. */
 hb_answer hb_book_ask(const uint8_t *book, size_t len, uint64_t kind, uint8_t *out, size_t out_len);
 
 /* Takes every frame out. Refuses 11, 10. */
 hb_answer hb_book_clear(uint8_t *book, size_t len);
 
-/* Writes all frames to the front of out as a reel, and keeps the rest of it. Refuses 11, 10, 12. */
+/* Writes all frames, at most HB_REPLAY_MAX bytes, to the front of out as a reel, and keeps the rest of it. Refuses 11, 10, 12. */
 hb_answer hb_book_replay(const uint8_t *book, size_t len, uint8_t *out, size_t out_len);
 
 /* ---- what the radio sends */
 
-/* The status word, high byte first, and what its bits say. cmd: 0 Fail, 1 PErr, 2 Ok, 3 Data, 8 Unknown. reset_src: 0 Cleared, 1 Analog,
- * 2 External, 4 Watchdog, 5 Iocd, 6 Rtc, 16 Unknown. chip_mode: 0 Sleep, 1 Rc, 2 Xosc, 3 Fs, 4 Rx, 5 Tx, 8 Unknown. */
+/* from commands.json: status */
+/* cmd: bits 11-9. How the last command went. */
+#define HB_CMD_FAIL 0 /* it could not be done */
+#define HB_CMD_P_ERR 1 /* its opcode or its parameters are wrong */
+#define HB_CMD_OK 2 /* it succeeded */
+#define HB_CMD_DATA 3 /* it succeeded, and data follow */
+#define HB_CMD_UNKNOWN 8 /* 4 to 7 in these bits */
+
+/* reset_src: bits 7-4. What reset the radio last. */
+#define HB_RESET_CLEARED 0 /* nothing since it was last cleared */
+#define HB_RESET_ANALOG 1 /* the analog part */
+#define HB_RESET_EXTERNAL 2 /* the reset pin */
+#define HB_RESET_WATCHDOG 4 /* the watchdog */
+#define HB_RESET_IOCD 5 /* the IOCD */
+#define HB_RESET_RTC 6 /* the real time clock */
+#define HB_RESET_UNKNOWN 16 /* 3, or 7 to 15 in these bits */
+
+/* chip_mode: bits 2-0. What the radio is doing. */
+#define HB_CHIP_MODE_SLEEP 0 /* asleep */
+#define HB_CHIP_MODE_RC 1 /* standby on the RC oscillator */
+#define HB_CHIP_MODE_XOSC 2 /* standby on the crystal */
+#define HB_CHIP_MODE_FS 3 /* frequency synthesis */
+#define HB_CHIP_MODE_RX 4 /* receiving */
+#define HB_CHIP_MODE_TX 5 /* transmitting */
+#define HB_CHIP_MODE_UNKNOWN 8 /* 6 or 7 in these bits */
+/* end: status */
+
+/* The status word, high byte first, and what its bits say: irq is bit 8, an interrupt is pending. ok is true for HB_CMD_OK and for
+ * HB_CMD_DATA: the last command succeeded. */
 typedef struct hb_status_t {
     uint16_t value;
     bool irq, ok;
     uint32_t cmd, reset_src, chip_mode;
 } hb_status_t;
 
-/* The first two bytes; one that is missing is 0. Refuses nothing. */
+/* The first two bytes; one that is missing is 0. Refuses nothing. A response's status can be read by it too. */
 hb_status_t hb_status(const uint8_t *bytes, size_t len);
 
 /* The raised interrupts of the first four bytes, one bit each; a byte that is missing is 0. Refuses nothing. */
 uint32_t hb_intr(const uint8_t *bytes, size_t len);
 
+/* from commands.json: interrupts */
 #define HB_IRQ_RX_FIFO UINT32_C(0x00000001) /* The receive FIFO has reached its threshold. */
 #define HB_IRQ_TX_FIFO UINT32_C(0x00000002) /* The transmit FIFO has reached its threshold. */
 #define HB_IRQ_RNG_REQ_VLD UINT32_C(0x00000004) /* The slave has received a valid ranging request. */
@@ -118,18 +699,22 @@ uint32_t hb_intr(const uint8_t *bytes, size_t len);
 #define HB_IRQ_RNG_REQ_DIS UINT32_C(0x20000000) /* A ranging request is discarded: its address does not match. */
 #define HB_IRQ_RNG_EXCH_VLD UINT32_C(0x40000000) /* The master has received a valid ranging response. */
 #define HB_IRQ_RNG_TIMEOUT UINT32_C(0x80000000) /* The master has received no ranging response. */
+/* end: interrupts */
 
-/* A response: its fields with the status word, or refusal 7 where the length is another, and zeros. RSSIs count half dBm downward
- * (hb_level_text), SNRs quarter dB (hb_snr_text). */
+/* A response: its fields with the status word, or refusal 7 where the length is another, and zeros. A level (rssi..) counts half dBm
+ * downward (hb_level_text), a ratio (snr..) quarter dB (hb_snr_text). Counters have 16 bits and begin again at 0 (hb_counter_difference). */
 
-/* 12 bytes */
+/* To kind HB_GET_LORA_RX_STATS, 12 bytes. Counts packets received, of them with a wrong CRC and with a wrong header, preambles detected and
+ * false synchronizations. Refuses 7. */
 typedef struct hb_lora_rx_stats_t {
     uint32_t refusal;
     uint16_t status, pkt_rx, crc_error, header_error, detection, false_sync;
 } hb_lora_rx_stats_t;
 hb_lora_rx_stats_t hb_lora_rx_stats(const uint8_t *bytes, size_t len);
 
-/* 8 bytes; detector has a bit for each path that received the packet */
+/* To kind HB_GET_LORA_PACKET_STATUS, 8 bytes. crc: whether the packet has a CRC; coding_rate: one of HB_LORA_CR_..; both as the packet's header
+ * says, or as was set where it has none. pkt_length: in bytes. rssi_pkt: of the packet on average; rssi_signal_pkt: of the signal after
+ * despreading. detector: a bit for each that received the packet, 1 the main one, 2, 4 and 8 the side detectors. Refuses 7. */
 typedef struct hb_lora_packet_status_t {
     uint32_t refusal;
     uint16_t status;
@@ -141,14 +726,17 @@ typedef struct hb_lora_packet_status_t {
 } hb_lora_packet_status_t;
 hb_lora_packet_status_t hb_lora_packet_status(const uint8_t *bytes, size_t len);
 
-/* 16 bytes */
+/* To kind HB_GET_FSK_RX_STATS, 16 bytes. Counts packets received, of them with a wrong CRC and with a wrong length, preambles detected, sync
+ * words found and failed, and time-outs. Refuses 7. */
 typedef struct hb_fsk_rx_stats_t {
     uint32_t refusal;
     uint16_t status, pkt_rx, crc_error, len_error, pbl_det, sync_ok, sync_fail, timeout;
 } hb_fsk_rx_stats_t;
 hb_fsk_rx_stats_t hb_fsk_rx_stats(const uint8_t *bytes, size_t len);
 
-/* 8 bytes */
+/* To kind HB_GET_FSK_PACKET_STATUS, 8 bytes. pkt_len: in bytes, with all that the radio adds, such as the CRC. rssi_avg: of the packet on
+ * average; rssi_sync: at the sync word. addr_match_..: whether the packet was for the address of all, and for the node's own. lqi: the link
+ * quality in quarter dB. Refuses 7. */
 typedef struct hb_fsk_packet_status_t {
     uint32_t refusal;
     uint16_t status, pkt_len, rssi_avg, rssi_sync;
@@ -157,14 +745,15 @@ typedef struct hb_fsk_packet_status_t {
 } hb_fsk_packet_status_t;
 hb_fsk_packet_status_t hb_fsk_packet_status(const uint8_t *bytes, size_t len);
 
-/* 4 bytes */
+/* To opcode 02 0B, 4 bytes. rssi: the level at this moment. Refuses 7. */
 typedef struct hb_rssi_inst_t {
     uint32_t refusal;
     uint16_t status, rssi;
 } hb_rssi_inst_t;
 hb_rssi_inst_t hb_rssi_inst(const uint8_t *bytes, size_t len);
 
-/* 6 bytes */
+/* To opcode 02 17, 6 bytes. timestamp: the time from the event to the request, in ticks of the high frequency clock; wrong if the radio
+ * slept in between. Refuses 7. */
 typedef struct hb_timestamp_value_t {
     uint32_t refusal;
     uint16_t status;
@@ -172,7 +761,7 @@ typedef struct hb_timestamp_value_t {
 } hb_timestamp_value_t;
 hb_timestamp_value_t hb_timestamp_value(const uint8_t *bytes, size_t len);
 
-/* 6 bytes */
+/* To opcode 02 19, 6 bytes: the least, the greatest and the average level that HB_SET_CCA measured. Refuses 7. */
 typedef struct hb_cca_result_t {
     uint32_t refusal;
     uint16_t status, rssi_min, rssi_max, rssi_avg;
@@ -181,19 +770,21 @@ hb_cca_result_t hb_cca_result(const uint8_t *bytes, size_t len);
 
 /* ---- readings */
 
-/* A level in dBm to the front of out, exactly, as -90.5 for 181 half dBm; 8 bytes hold any. No zero byte follows. Refuses 12. */
+/* A level in dBm to the front of out, exactly, as -90.5 for 181 half dBm; HB_LEVEL_TEXT_MAX bytes take any.
+ * No zero byte follows, and the rest of out is kept. Refuses 12. */
 hb_answer hb_level_text(uint16_t half_dbm, uint8_t *out, size_t out_len);
 
-/* A signal-to-noise ratio in dB to the front of out, exactly, as -1.75 for -7 quarter dB; 6 bytes hold any. Refuses 12. */
+/* A signal-to-noise ratio in dB to the front of out, exactly, as -1.75 for -7 quarter dB; HB_SNR_TEXT_MAX bytes
+ * take any. No zero byte follows, and the rest of out is kept. Refuses 12. */
 hb_answer hb_snr_text(int8_t quarter_db, uint8_t *out, size_t out_len);
 
-/* How far a 16-bit counter went on between two readings, also where it wrapped. */
+/* How far a 16-bit counter went on between two readings, also where it went past 65535 once. Refuses nothing. */
 uint16_t hb_counter_difference(uint16_t earlier, uint16_t later);
 
-/* The width of a code of LoraBw in Hz, rounded down; 0 for a code above 15. */
+/* The width of a code HB_LORA_BW_.. in Hz, rounded down; 0 for a code above 15. Refuses nothing. */
 uint32_t hb_lora_bw_hz(uint8_t code);
 
-/* The name of a code of RxBw in tenths of kHz; 0 for a code that it lacks, and for BwAuto. */
+/* The name of a code HB_RX_BW_.. in tenths of kHz; 0 for a number that is none, and for HB_RX_BW_AUTO. Refuses nothing. */
 uint16_t hb_rx_bw_tenths(uint8_t code);
 
 /* ---- reels: frames, each after one length byte */
@@ -208,7 +799,7 @@ typedef struct hb_step {
 hb_step hb_reel_step(const uint8_t *reel, size_t len, uint64_t at);
 
 /* The text of a reel to the front of out, a line for each frame: its index, kind (0 if refused), refusal, place and arguments as
- * decimals. A cut frame prints as refusal 14 and ends. Refuses 12. */
+ * decimals. A cut frame prints as refusal 14 and ends. HB_DUMP_MAX(len) bytes take any; the rest of out is kept. Refuses 12. */
 hb_answer hb_dump(const uint8_t *reel, size_t len, uint8_t *out, size_t out_len);
 
 #ifdef __cplusplus

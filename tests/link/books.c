@@ -1,4 +1,4 @@
-/* The settings book, against a plain list: after every call the whole buffer has to be what document 01's layout makes of the list. */
+/* The settings book, against a plain list: after every call the whole buffer has to be what a list has (REFERENCE, "Book"). */
 #include "link.h"
 
 typedef struct {
@@ -150,7 +150,7 @@ static void history(size_t n) {
     }
 }
 
-/* Document 01's books; all 29 settings take 246 bytes; a full book takes an overwrite; what is put again stands at the end. */
+/* The reference's example; all 29 settings take 246 bytes; a full book takes an overwrite; what is put again stands at the end. */
 static void examples(void) {
     make(62);
     replay();

@@ -3,18 +3,26 @@
 mod hoardbutton;
 use hoardbutton as hb;
 
+// Builds a setting and puts it into the book, or says why not.
+fn set(book: &mut [u8], kind: u64, args: &[u64]) {
+    let frame = hb::checked(kind, args);
+    if frame.refusal != 0 {
+        println!("refusal {} at argument {}", frame.refusal, frame.place);
+        return;
+    }
+    let kept = hb::book_put(book, &frame.bytes[..frame.len as usize]);
+    assert_eq!(kept.refusal, 0, "the book has room for all settings");
+}
+
 fn main() {
-    let (mut book, mut reel, mut text) = ([0; 256], [0; 256], [0; 256]);
+    let (mut book, mut reel, mut text) = ([0; 246], [0; 213], [0; 28 * 213]);
     hb::book_make(&mut book);
 
     // Kind 24 is the frequency in Hz. Kind 1 is the LoRa modulation: Sf7, Bw125, Cr1Ham45Si, no optimisation, filter by the radio.
-    for frame in [hb::checked(24, &[868_100_000]), hb::checked(1, &[7, 4, 1, 0, 0])] {
-        hb::book_put(&mut book, &frame.bytes[..frame.len as usize]);
-    }
-
-    // A width that no field holds.
-    let wrong = hb::checked(1, &[7, 16, 1, 0, 0]);
-    println!("refusal {} at argument {}", wrong.refusal, wrong.place);
+    set(&mut book, 24, &[868_100_000]);
+    set(&mut book, 1, &[7, 4, 1, 0, 0]);
+    // No width has the code 16.
+    set(&mut book, 1, &[7, 16, 1, 0, 0]);
 
     let played = hb::book_replay(&book, &mut reel).value as usize;
     let dumped = hb::dump(&reel[..played], &mut text).value as usize;

@@ -97,7 +97,7 @@ static void too_large(const row *r) {
     }
 }
 
-/* Document 01's examples; what an enum lacks; the unit that kind 17 refuses. */
+/* Worked examples; what an enum lacks; the unit that kind 17 refuses. */
 static void examples(void) {
     builds(hb_checked, 1, "7 4 1 0 0", "02 20 74 10", 0, 0);
     builds(hb_checked, 1, "12 7 9 1 3", "02 20 C7 9D", 0, 0);

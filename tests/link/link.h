@@ -27,7 +27,7 @@ uint64_t any(void);
 size_t hex(const char *text, uint8_t *to);
 size_t numbers(const char *text, uint64_t *to);
 
-/* A good call of each kind, the frame that document 01's table gives, and another frame of that kind, all ones where it may be. */
+/* A good call of each kind, its frame (REFERENCE, "Commands"), and another frame of that kind, all ones where it may be. */
 enum { KINDS = 39 };
 typedef struct {
     uint64_t kind;
@@ -41,5 +41,5 @@ void builds(builder *build, uint64_t kind, const char *args, const char *frame, 
 void builds_rows(builder *build);
 
 void test_frames(void), test_books(void), test_radio(void), test_readings(void), test_reels(void), test_rust(void);
-/* The tests of hb_plain: those of C call those of Rust. */
-void test_plain(void), test_rust_plain(void);
+/* The tests of hb_plain: those of C call those of Rust. The tests of the header's names. */
+void test_plain(void), test_rust_plain(void), test_names(void);

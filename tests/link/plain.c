@@ -3,7 +3,7 @@
 
 void test_plain(void) {
     builds_rows(hb_plain);
-    /* Document 01's examples, overlaps, and numbers beyond their field. */
+    /* Worked examples, overlaps, and numbers beyond their field. */
     builds(hb_plain, 1, "12 7 9 1 3", "02 20 C7 9D", 0, 0);
     builds(hb_plain, 29, "16777216", "02 0C 00 00 00", 0, 0);
     builds(hb_plain, 29, "18446744073709551615", "02 0C FF FF FF", 0, 0);

@@ -1,4 +1,4 @@
-// hb_plain on any arguments: against document 01's lines (tests/oracle/model.rs, with the fields that overlap made whole again), and
+// hb_plain on any arguments: against a model (tests/oracle/model.rs, with the fields that overlap made whole again), and
 // against the Rust's own builders where they are beside the repository.
 use super::*;
 

@@ -1,4 +1,4 @@
-/* Status, interrupts and the seven responses, against document 01's bits. */
+/* Status, interrupts and the seven responses, against bits of the tests' own. */
 #include "link.h"
 
 static uint16_t two(const uint8_t *b) {
@@ -64,7 +64,7 @@ static void statuses(void) {
     lent = 0;
 }
 
-/* In the order of document 01, the first at bit 0. */
+/* In the order of their bits (REFERENCE, "Status and interrupts"). */
 static const uint32_t interrupts[32] = {
     HB_IRQ_RX_FIFO, HB_IRQ_TX_FIFO, HB_IRQ_RNG_REQ_VLD, HB_IRQ_TX_TIMESTAMP, HB_IRQ_RX_TIMESTAMP, HB_IRQ_PREAMBLE_DETECTED,
     HB_IRQ_HEADER_VALID, HB_IRQ_CAD_DETECTED, HB_IRQ_LORA_HDR_TIMESTAMP, HB_IRQ_HEADER_ERR, HB_IRQ_EOL, HB_IRQ_PA, HB_IRQ_LORA_TX_RX_HOP,
@@ -102,8 +102,8 @@ void test_radio(void) {
             lent--;
         }
     }
-    /* Document 01: byte 5 = 5A and byte 7 = 02 is 181 half dBm. */
-    trying("hb_lora_packet_status", "document 01", 181);
+    /* Byte 5 = 5A and byte 7 = 02 is 181 half dBm. */
+    trying("hb_lora_packet_status", "half dBm", 181);
     same("rssi_pkt", hb_lora_packet_status(lend_const("\0\0\0\0\0\x5A\0\x02", 8), 8).rssi_pkt, 181);
     lent--;
 }

@@ -32,7 +32,7 @@ static void texts(void) {
         trying("hb_snr_text", "count as a byte", (uint8_t)count);
         text(ratio, count, wanted, snprintf(wanted, sizeof wanted, "%s%d.%02d", count < 0 ? "-" : "", size / 4, 25 * (size % 4)));
     }
-    trying("texts of document 01", "", 0);
+    trying("texts of the reference", "", 0);
     text(level, 181, "-90.5", 5);
     text(level, 0, "0.0", 3);
     text(ratio, -128, "-32.00", 6);
@@ -46,7 +46,7 @@ static uint32_t hz(unsigned code) {
     return code < 16 ? 812500 >> (15 - code) : 0;
 }
 
-/* Document 01's rule; the codes that RxBw lists are the bits that are set, from code 0 on, and BwAuto is 255. */
+/* The rule of REFERENCE, "Widths"; the codes that RxBw lists are the bits that are set, from code 0 on, and BwAuto is 255. */
 static uint16_t tenths(unsigned code) {
     static const uint64_t listed[] = {0x000000FFFFBE0001, 0x000000FFFFFE0001, 0x000000FFFF010101, 0x800000FFDFBF0101};
     static const unsigned m[] = {13, 14, 15, 18};
@@ -63,7 +63,7 @@ void test_readings(void) {
         trying("hb_rx_bw_tenths", "code", code);
         same("name", hb_rx_bw_tenths(code), tenths(code));
     }
-    trying("hb_counter_difference", "document 01", 4);
+    trying("hb_counter_difference", "past the end", 4);
     same("difference", hb_counter_difference(65535, 3), 4);
     for (unsigned earlier = 0; earlier < 65536; earlier += 251)
         for (unsigned later = 0; later < 65536; later += 241) {

@@ -66,8 +66,8 @@ void test_reels(void) {
     static uint8_t reel[6000];
     static const char example[] = "0 4 0 0 52\n1 8 0 0\n2 1 0 0 7 12 1 0 0\n3 0 1 0\n";
     size_t n = hex("03 02 23 34 02 02 28 04 02 20 7C 10 00", reel);
-    dumped("document 01", reel, n, example, sizeof example - 1);
-    for (size_t cut = 0; cut <= n; cut++) both("document 01, cut", reel, cut);
+    dumped("the reference's example", reel, n, example, sizeof example - 1);
+    for (size_t cut = 0; cut <= n; cut++) both("the reference's example, cut", reel, cut);
     for (size_t i = n = 0; i < KINDS; i++) {
         reel[n] = hex(rows[i].frame, reel + n + 1);
         n += 1 + reel[n];

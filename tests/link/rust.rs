@@ -34,7 +34,7 @@ mod plain;
 mod enums {
     pub use alloc::{boxed::Box, vec::Vec};
     #[cfg(not(source))]
-    include!("codes.rs");
+    include!("../histories/enums.rs");
     #[cfg(source)]
     include!("../oracle/enums.rs");
 }

@@ -1,0 +1,364 @@
+#!/usr/bin/env python3
+"""make_reference.py: writes the made parts of docs/REFERENCE.md, include/hoardbutton.h and tests/link/named.h from docs/commands.json.
+
+A made part stands between `from commands.json: NAME` and `end: NAME`. tests/reference fails where a file is not as this makes it.
+"""
+import json
+import os
+import re
+import sys
+import textwrap
+
+ROOT = os.path.dirname(os.path.dirname(os.path.abspath(__file__)))
+LINE = 140
+
+
+def load():
+    with open(os.path.join(ROOT, "docs/commands.json"), encoding="utf8") as file:
+        return json.load(file)
+
+
+# ---- places and ranges
+
+def bits(place):
+    """The bits of a place, each a byte and a bit of the frame, the lowest of the value first."""
+    if place == "none":
+        return []
+    if "+" in place:
+        return [bit for part in reversed(place.split("+")) for bit in bits(part)]
+    if "." in place:
+        byte, span = place.split(".")
+        high, _, low = span.partition("-")
+        return [(int(byte), bit) for bit in range(int(low or high), int(high) + 1)]
+    first, _, last = place.partition("-")
+    return [(byte, bit) for byte in range(int(last or first), int(first) - 1, -1) for bit in range(8)]
+
+
+def narrowed(argument):
+    return argument.get("narrowed", argument["place"])
+
+
+def is_code(data, argument):
+    return argument["takes"] in {e["name"] for e in data["enums"]}
+
+
+def codes_of(data, argument):
+    """The codes that the checked builder takes of an argument that is an enum."""
+    codes = [code for e in data["enums"] if e["name"] == argument["takes"] for code, _ in e["codes"]]
+    return argument.get("checked_codes", codes)
+
+
+def greatest(data, argument):
+    """The greatest value that the checked builder takes."""
+    return max(codes_of(data, argument)) if is_code(data, argument) else argument["range"][1]
+
+
+# ---- what the sizes come from
+
+def line_length(data, kind, index_digits=20):
+    """The longest line of a dump of that kind, with its newline."""
+    numbers = [kind["kind"], 0, 0] + [greatest(data, a) for a in kind["arguments"]]
+    return index_digits + sum(1 + len(str(n)) for n in numbers) + 1
+
+
+def sizes(data):
+    """Every size, computed from the rows, the refusals and the rules of texts."""
+    settings = [k for k in data["kinds"] if k["slot"] is not None]
+    frames = sum(k["length"] for k in settings)
+    head = 4 + 2 * len(settings)
+    refused = max(len("0 %d 0" % r["number"]) for r in data["refusals"])
+    cut = 20 + 1 + refused + 1
+    for k in data["kinds"]:
+        assert line_length(data, k) <= cut * (1 + k["length"]), "a frame whose line is longer than HB_DUMP_BYTE_MAX has it"
+    return {
+        "HB_KINDS": len(data["kinds"]),
+        "HB_SETTINGS": len(settings),
+        "HB_FRAME_MAX": max(k["length"] for k in data["kinds"]),
+        "HB_ARGS_MAX": max(len(k["arguments"]) for k in data["kinds"]),
+        "HB_BOOK_MIN": head,
+        "HB_BOOK_MAX": 4096,
+        "HB_BOOK_ALL": head + frames,
+        "HB_REPLAY_MAX": frames + len(settings),
+        "HB_LEVEL_TEXT_MAX": max(len("-%d.%d" % (n // 2, 5 * (n % 2))) for n in range(65536)),
+        "HB_SNR_TEXT_MAX": max(len("-%d.%02d" % (n // 4, 25 * (n % 4))) for n in range(129)),
+        "HB_DUMP_LINE_MAX": max([cut] + [line_length(data, k) for k in data["kinds"]]),
+        "HB_DUMP_BYTE_MAX": cut,
+    }
+
+
+def lora_hz(code):
+    """The width of a LoraBw code, rounded down: halves of 1 MHz, of 1/12 MHz and of 812.5 kHz."""
+    if code < 8:
+        return 1_000_000 >> (7 - code)
+    return 1_000_000 // (12 << (11 - code)) if code < 12 else 812_500 >> (15 - code)
+
+
+def rx_tenths(code):
+    """The name of a listed RxBw code in tenths of kHz, by its rule; BwAuto has none."""
+    if code == 255:
+        return 0
+    divisor = (13, 14, 15, 18)[code >> 6] * ((code >> 3 & 7) + 1) << (code & 7)
+    return 40_000 // divisor * 10 if divisor <= 4_000 else (2 * 400_000 + divisor) // (2 * divisor)
+
+
+# ---- names for C
+
+def snake(name):
+    """A name of the Rust for C: NotAKind is NOT_A_KIND, Crc1Byte is CRC1_BYTE, and 1B stays 1B."""
+    return re.sub(r"(?<=[a-z])(?=[A-Z])|(?<=[A-Z0-9])(?=[A-Z][a-z])", "_", name).upper()
+
+
+def c_kind(kind):
+    return "HB_" + kind["name"].upper()
+
+
+def c_enum(enum):
+    return "HB_" + (enum.get("c") or snake(enum["name"]))
+
+
+def c_code(enum, name):
+    strip = enum.get("strip", "")
+    return c_enum(enum) + "_" + snake(name[len(strip):] if strip and name.startswith(strip) else name)
+
+
+def c_refusal(refusal):
+    return "HB_REFUSED_" + snake(refusal["name"])
+
+
+# ---- tables of the reference
+
+def table(head, rows):
+    return ["| %s |" % " | ".join(head), "|%s|" % "|".join("---" for _ in head)] + ["| %s |" % " | ".join(row) for row in rows]
+
+
+def comma(number):
+    return "any number of 64 bits" if number == 2 ** 64 - 1 else format(number, ",")
+
+
+def takes(data, a):
+    if is_code(data, a):
+        only = a.get("checked_codes")
+        return "`%s`%s" % (a["takes"], "; checked: only %s" % ", ".join(map(str, only)) if only else "")
+    if a["takes"] == "yes or no":
+        return "yes or no"
+    most = a["range"][1]
+    return comma(most) if most == 2 ** 64 - 1 else "0 to " + comma(most)
+
+
+def place(a):
+    text = a["place"] + (", low byte first" if a.get("low_byte_first") else "")
+    if "narrowed" not in a:
+        return text
+    return text + "; checked: " + {"none": "no bit"}.get(a["narrowed"], a["narrowed"].replace("+", " and "))
+
+
+def says(entry):
+    unit = entry.get("unit")
+    return ", ".join(filter(None, [entry.get("says"), "in " + unit if unit else None]))
+
+
+def md_commands(data):
+    rows = [[str(k["kind"]), "`%s`" % k["builder"], "%s %s" % (k["opcode"][:2], k["opcode"][2:]), str(k["length"]),
+             "action" if k["slot"] is None else str(k["slot"]), k["says"]] for k in data["kinds"]]
+    return table(["kind", "builder", "opcode", "length", "slot", "what it does"], rows)
+
+
+def md_arguments(data):
+    rows = []
+    for k in data["kinds"]:
+        for n, a in enumerate(k["arguments"], 1):
+            rows.append([str(k["kind"]), str(n), "`%s`" % a["name"], place(a), takes(data, a), says(a)])
+    return table(["kind", "no", "argument", "place", "takes", "means"], rows)
+
+
+def md_enums(data):
+    rows = []
+    for e in data["enums"]:
+        codes = ", ".join("%d `%s`" % tuple(c) for c in sorted(e["codes"])) if e["name"] != "RxBw" else 'the 91 codes listed in "Widths"'
+        other = "" if e["rust"] == e["name"] else " The Rust's `%s::%s`." % (e["file"], e["rust"])
+        rows.append(["`%s`" % e["name"], e["says"] + other, codes])
+    return table(["enum", "what it is", "codes"], rows)
+
+
+def md_status(data):
+    rows = [["`%s`" % s["field"], s["bits"], s["says"], "; ".join("%d `%s`: %s" % tuple(c) for c in s["codes"])] for s in data["status"]]
+    return table(["field", "bits", "what it tells", "codes"], rows)
+
+
+def md_interrupts(data):
+    return table(["bit", "interrupt", "raised when"], [[str(bit), "`%s`" % name, text] for bit, name, text in data["interrupts"]])
+
+
+def md_responses(data):
+    rows = []
+    for r in data["responses"]:
+        first = ["`%s`" % r["name"], str(r["length"]), r["answers"]]
+        for f in r["fields"]:
+            rows.append(first + ["`%s`" % f["name"], f["place"], f["holds"], says(f)])
+            first = ["", "", ""]
+    return table(["response", "length", "answers", "field", "place", "holds", "means"], rows)
+
+
+def md_lora_bw(data):
+    codes = [c for e in data["enums"] if e["name"] == "LoraBw" for c in e["codes"]]
+    return table(["code", "name", "Hz"], [[str(code), "`%s`" % name, comma(lora_hz(code))] for code, name in codes])
+
+
+def md_rx_bw(data):
+    codes = sorted(c for e in data["enums"] if e["name"] == "RxBw" for c in e["codes"])
+    texts = ["%d `%s` %s" % (code, name, comma(rx_tenths(code))) for code, name in codes]
+    return textwrap.wrap("; ".join(t.replace(" ", "\0") for t in texts) + ".", LINE, break_long_words=False)
+
+
+def md_refusals(data):
+    return table(["number", "name for C", "given when", "place"],
+                 [[str(r["number"]), "`%s`" % c_refusal(r), r["when"], r["place"]] for r in data["refusals"]])
+
+
+def md_order(data):
+    return ["Where several apply, the first of these is given: %s." % ", ".join(map(str, data["order"]))]
+
+
+def md_calls(data):
+    return table(["call", "for C", "refusals, in this order"],
+                 [[what, "`%s`" % name, ", ".join(map(str, numbers)) or "none"] for name, what, numbers in data["calls"]])
+
+
+def md_sizes(data):
+    return table(["name for C", "size", "what it is"], [["`%s`" % name, comma(value), text] for name, value, text in data["sizes"]])
+
+
+# ---- constants of the header
+
+def comment(text):
+    return textwrap.wrap("/* %s */" % text, LINE, subsequent_indent=" * ")
+
+
+def c_arguments(data, arguments):
+    """A line for each argument, in three columns."""
+    rows = [(a["name"], c_takes(data, a), says(a).replace("*", "")) for a in arguments]
+    wide = [max((len(row[i]) for row in rows), default=0) for i in (0, 1)]
+    out = []
+    for name, taken, text in rows:
+        head = " *   %-*s  %-*s  " % (wide[0], name, wide[1], taken)
+        blank = " *" + " " * (len(head) - 2)
+        out += textwrap.wrap(head.replace(" ", "\0") + text, LINE, subsequent_indent=blank.replace(" ", "\0")) if text else [head]
+    return [line.replace("\0", " ").rstrip() for line in out]
+
+
+def c_takes(data, a):
+    if is_code(data, a):
+        only = ["%s only, but for hb_plain" % c_code(e, name) for e in data["enums"] if e["name"] == a["takes"]
+                for code, name in e["codes"] if [code] == a.get("checked_codes")]
+        return only[0] if only else next(c_enum(e) for e in data["enums"] if e["name"] == a["takes"]) + "_.."
+    if a["takes"] == "yes or no":
+        return "1 or 0"
+    return "any number" if a["range"][1] == 2 ** 64 - 1 else "0 to %d" % a["range"][1]
+
+
+def c_kinds(data):
+    out = []
+    for k in data["kinds"]:
+        kept = "An action. " if k["slot"] is None else ""
+        none = "" if k["arguments"] else " No arguments."
+        text = comment(kept + k["says"] + none) + c_arguments(data, k["arguments"])
+        if k["arguments"]:
+            text = [line.replace(" */", "") for line in text]
+            text[-1] += " */"
+        out += text + ["#define %s %d" % (c_kind(k), k["kind"]), ""]
+    return out[:-1]
+
+
+def c_codes(data):
+    out = []
+    for e in data["enums"]:
+        out += comment(e["says"])
+        out += ["#define %s %d" % (c_code(e, name), code) for code, name in e["codes"]] + [""]
+    return out[:-1]
+
+
+def c_refusals(data):
+    return ["#define %s %d /* %s%s */" % (c_refusal(r), r["number"], r["when"], "; place: " + r["place"] if r["place"] != "0" else "")
+            for r in data["refusals"]]
+
+
+def c_sizes(data):
+    return ["#define %s %d /* %s */" % (name, value, text) for name, value, text in data["sizes"]]
+
+
+def c_status(data):
+    out = []
+    for s in data["status"]:
+        out += comment("%s: bits %s. %s" % (s["field"], s["bits"], s["says"]))
+        out += ["#define %s %d /* %s */" % (c_code(s, name), code, text) for code, name, text in s["codes"]] + [""]
+    return out[:-1]
+
+
+def c_interrupts(data):
+    return ["#define HB_IRQ_%s UINT32_C(0x%08X) /* %s */" % (name.upper(), 1 << bit, text) for bit, name, text in data["interrupts"]]
+
+
+def c_named(data):
+    """The table by which tests/link/names.c holds each constant to the library."""
+    out = ["/* Made from docs/commands.json by docs/make_reference.py: every constant of the header that names a kind or a code. */",
+           "static const struct {", "    uint64_t kind, number;", "    size_t len, count;", "} named_kinds[] = {"]
+    out += ["    {%s, %d, %d, %d}," % (c_kind(k), k["kind"], k["length"], len(k["arguments"])) for k in data["kinds"]]
+    out += ["};", "", "/* An argument that is a code or a yes or no, and all that the checked builder takes there; more, if the plain one takes one more. */",
+            "static const struct {", "    uint64_t kind;", "    size_t argument, count, more;", "    uint64_t codes[91];", "} named_codes[] = {"]
+    for k in data["kinds"]:
+        for n, a in enumerate(k["arguments"], 1):
+            if a["takes"] == "number":
+                continue
+            names = ["0", "1"] if a["takes"] == "yes or no" else [c_code(e, name) for e in data["enums"] if e["name"] == a["takes"] for _, name in e["codes"]]
+            more = len(names) - len(a.get("checked_codes", names))
+            text = "{%s, %d, %d, %d, {%s}}," % (c_kind(k), n, len(names) - more, more, ", ".join(names))
+            out += textwrap.wrap(text, LINE, initial_indent="    ", subsequent_indent="        ")
+    return out + ["};"]
+
+
+# ---- the files
+
+MADE = {
+    "docs/REFERENCE.md": {"commands": md_commands, "arguments": md_arguments, "enums": md_enums, "status": md_status,
+                          "interrupts": md_interrupts, "responses": md_responses, "LoraBw": md_lora_bw, "RxBw": md_rx_bw,
+                          "refusals": md_refusals, "order": md_order, "calls": md_calls, "sizes": md_sizes},
+    "include/hoardbutton.h": {"sizes": c_sizes, "refusals": c_refusals, "kinds": c_kinds, "codes": c_codes, "status": c_status,
+                              "interrupts": c_interrupts},
+    "tests/link/named.h": {None: c_named},
+}
+
+
+def filled(text, name, lines):
+    """The text with these lines between the marks of that name."""
+    start, end = "from commands.json: %s " % name, "end: %s " % name
+    before, first, rest = text.partition(start)
+    assert first and end in rest, "no place for %s" % name
+    mark = rest[:rest.index("\n")]
+    opening = "<!-- " if "-->" in mark else "/* "
+    after = rest[rest.index(end) + len(end):]
+    gap = "\n" if "-->" in mark else ""
+    return before + start + mark.strip() + "\n" + gap + "\n".join(lines).replace("\0", " ") + "\n" + gap + opening + end + after
+
+
+def made(data):
+    """Each file as it has to be."""
+    files = {}
+    for path, parts in MADE.items():
+        text = ""
+        if None not in parts:
+            with open(os.path.join(ROOT, path), encoding="utf8") as file:
+                text = file.read()
+        for name, make in parts.items():
+            text = "\n".join(make(data)) + "\n" if name is None else filled(text, name, make(data))
+        files[path] = text
+    return files
+
+
+def main():
+    for path, text in made(load()).items():
+        with open(os.path.join(ROOT, path), "w", encoding="utf8") as file:
+            file.write(text)
+
+
+if __name__ == "__main__":
+    sys.exit(main())
