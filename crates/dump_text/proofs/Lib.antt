@@ -3,4 +3,5 @@ pub mod Arguments
 pub mod Passing
 pub mod Parts
 pub mod Whole
+pub mod Keeps
 pub mod Outcome

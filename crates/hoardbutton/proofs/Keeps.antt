@@ -1,16 +1,13 @@
 -- A call that gives C a refusal leaves every buffer that it was lent as it was (REFERENCE, "Refusals").
 -- Assumes nothing.
 use mathlib.Core.Path.{_≡_, refl}
-use mathlib.Core.Bool.{Bool, true, false, cond}
-use mathlib.Core.List.{List, _++_}
+use mathlib.Core.List.{List}
 use Prim.Native.Nat.{ℕ, _<_}
 use native.Mathlib.Omega.{arith}
-use lib.Dec.{leb}
-use lib.ListN.{length, drop}
-use Rattle.refusal.specs.declared.Refusal.the-variants.{OutputShort}
 use Rattle.dump_text.specs.declared.Dumped.{Dumped}
 use Rattle.dump_text.specs.declared.Dumped.the-variants as dump
-use Rattle.dump_text.specs.Whole.{filled}
+use Rattle.dump_text.specs.Whole.{dumped, filled}
+use Rattle.dump_text.proofs.Keeps.{refused-keeps as dump-keeps}
 use Rattle.book.specs.declared.Answer.{Answer}
 use Rattle.book.specs.declared.Answer.the-variants.{Done, Refused}
 use Rattle.book.specs.Book.{ours}
@@ -22,11 +19,11 @@ use Rattle.hoardbutton.specs.Reels.{dumpC, textC}
 
 -- `hb_level_text`, `hb_snr_text`, `hb_dump`
 pub text-keeps : (text out : List ℕ) → 0 < textC text out .refusal → filled text out ≡ out
-text-keeps text out = by (leb (length text) (length out))
+text-keeps text out = by (dumped text out) refl
   where
-    by : (t : Bool) → 0 < dumpC (cond {A = Dumped} t (dump.Text (length text)) (dump.Refused OutputShort)) .refusal → cond t (text ++ drop (length text) out) out ≡ out
-    by true q = absurd (omega arith)
-    by false q = refl
+    by : (d : Dumped) → dumped text out ≡ d → 0 < dumpC d .refusal → filled text out ≡ out
+    by (dump.Text n) e q = absurd (omega arith)
+    by (dump.Refused x) e q = dump-keeps text out x e
 
 -- `hb_book_make` and its like
 pub book-keeps : (c : Call) (b : List ℕ) → Bytes b → 0 < answerC (after ours c b .answer) .refusal → (after ours c b .output ≡ lentTo c) × (after ours c b .bytes ≡ b)
