@@ -2,13 +2,14 @@
 """plot.py FIGURES.. > SVG: a row for each figure, with a dot at the ratio's median and a line from its least to its greatest, on a log axis.
 
 A figure is a line: name, ratio, least, greatest, and two times, which are not drawn. The name's first word or two give its group.
+Over and under the rows it says which side of 1 is slower, and with which Rust each group is compared.
 """
 import math
 import sys
 from xml.sax.saxutils import escape
 
 GROUPS = [("builders", "#3465a4"), ("readers", "#4e9a06"), ("decoder", "#a40000"), ("book", "#8f5902"), ("dump", "#5c3566")]
-LEFT, WIDTH, RIGHT, ROW, TOP = 270, 400, 40, 13, 28
+LEFT, WIDTH, RIGHT, ROW, TOP = 270, 400, 40, 13, 44
 
 
 def group(name):
@@ -33,14 +34,16 @@ def plot(rows):
     low = 2.0 ** math.floor(math.log2(min(r[2] for r in rows)))
     high = 2.0 ** math.ceil(math.log2(max(r[3] for r in rows)))
     bottom = TOP + ROW * len(rows) + 4
-    width, height = LEFT + WIDTH + RIGHT, bottom + 34
+    width, height = LEFT + WIDTH + RIGHT, bottom + 50
 
     def x(ratio):
         return LEFT + WIDTH * math.log(ratio / low) / math.log(high / low)
 
     out = ['<svg xmlns="http://www.w3.org/2000/svg" width="%d" height="%d" viewBox="0 0 %d %d" font-family="sans-serif" font-size="10">'
            % (width, height, width, height), '<rect width="100%" height="100%" fill="white"/>',
-           '<text x="%d" y="14" font-size="12">time of ours / time of the Rust: median, least and greatest</text>' % 8]
+           '<text x="%d" y="14" font-size="12">time of ours / time of the Rust: median, least and greatest</text>' % 8,
+           '<text x="%.1f" y="32" text-anchor="end">ours is faster \u2190</text>' % (x(1) - 5),
+           '<text x="%.1f" y="32">\u2192 ours is slower</text>' % (x(1) + 5)]
     tick = low
     while tick <= high:
         out.append('<path d="M%.1f %dV%d" stroke="%s"/><text x="%.1f" y="%d" text-anchor="middle">%g</text>'
@@ -56,6 +59,8 @@ def plot(rows):
     for i, (name, colour) in enumerate(GROUPS):
         out.append('<circle cx="%d" cy="%d" r="3" fill="%s"/><text x="%d" y="%d">%s</text>'
                    % (LEFT + 80 * i, bottom + 25, colour, LEFT + 80 * i + 7, bottom + 28.5, name))
+    out.append('<text x="%d" y="%d">builders and readers: against the driver\'s own Rust; decoder, book and dump: against Rust that was '
+               'written for this</text>' % (8, bottom + 45))
     return "\n".join(out + ["</svg>"])
 
 

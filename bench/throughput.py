@@ -1,13 +1,14 @@
 #!/usr/bin/env python3
 """throughput.py OUT RUST: the program `dump` beside the dump in Rust, on a reel of 100 MB and on its first 10 MB.
 
-The two run in turn, REPEATS times each (three times as often on the shorter reel), by tests/run-rattle, with their output to /dev/null. A
-time is user and system time together, less that of a run on an empty reel, which is the start of the program. Before that both write to
-files, which have to be equal.
+The two run in turn, REPEATS times each (three times as often on the shorter reel), with their output to /dev/null and no shell around them:
+as tests/run-rattle runs them, but called straight. A time is user and system time together, less that of a run on an empty reel, which is
+the start of the program. Before that both write to files, which have to be equal.
 Prints a table, and writes the ratios to OUT/figures-dump for the plot.
 """
 import filecmp
 import os
+import platform
 import random
 import statistics
 import subprocess
@@ -37,10 +38,22 @@ def make_reels(small, large):
                     first.write(whole.read())
 
 
+def runner():
+    """What stands before a program: the kit's loader with the kit's libraries, and its emulator where the machine is not x86-64."""
+    guide = subprocess.run(["rt", "doc"], stdout=subprocess.PIPE, check=True, universal_newlines=True).stdout.strip()
+    tools = os.path.join(os.path.dirname(guide), "..", "on", platform.machine(), "toolchain")
+    emulator = os.path.join(tools, "bin", "qemu-x86_64")
+    loader = [os.path.join(tools, "lib", "ld-linux-x86-64.so.2"), "--library-path", os.path.join(tools, "lib")]
+    return ([emulator] if os.access(emulator, os.X_OK) else []) + loader
+
+
+RUNNER = runner()
+
+
 def seconds(program, reel, to=os.devnull):
     """User and system time of a run."""
     with open(to, "wb") as output:
-        pid = subprocess.Popen(["tests/run-rattle", program, reel], stdout=output).pid
+        pid = subprocess.Popen(RUNNER + [program, reel], stdout=output).pid
         _, status, used = os.wait4(pid, 0)
     if status:
         sys.exit("%s ended with %d" % (program, status))
