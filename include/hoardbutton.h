@@ -56,7 +56,7 @@ extern "C" {
 #define HB_REFUSED_BUFFER_SIZE 11 /* the book's buffer is shorter than 62 bytes or longer than 4,096 */
 #define HB_REFUSED_OUTPUT_SHORT 12 /* the output is too short for what has to be written */
 #define HB_REFUSED_NOT_A_KIND 13 /* there is no such kind, or the book was given an action */
-#define HB_REFUSED_REEL_CUT 14 /* the reel ends inside a frame, or the place is behind its end */
+#define HB_REFUSED_REEL_CUT 14 /* the reel breaks off within a frame, or the place lies behind it */
 /* end: refusals */
 
 /* ---- kinds: each with its arguments in their order. A code is one of the constants named, a yes is 1 and a no is 0; hb_plain takes any
@@ -787,7 +787,7 @@ uint32_t hb_lora_bw_hz(uint8_t code);
 /* The name of a code HB_RX_BW_.. in tenths of kHz; 0 for a number that is none, and for HB_RX_BW_AUTO. Refuses nothing. */
 uint16_t hb_rx_bw_tenths(uint8_t code);
 
-/* ---- reels: frames, each after one length byte */
+/* ---- reels: frames in a row, each behind a byte that says its length */
 
 /* A step: the frame is the bytes from start up to end, and next is the place for the next step. ended is 1 at the reel's end. */
 typedef struct hb_step {
@@ -798,8 +798,9 @@ typedef struct hb_step {
 /* The frame at a place; the first place is 0. Refuses 14. */
 hb_step hb_reel_step(const uint8_t *reel, size_t len, uint64_t at);
 
-/* The text of a reel to the front of out, a line for each frame: its index, kind (0 if refused), refusal, place and arguments as
- * decimals. A cut frame prints as refusal 14 and ends. HB_DUMP_MAX(len) bytes take any; the rest of out is kept. Refuses 12. */
+/* The text of a reel to the front of out, a line for each frame. Its decimals are the frame's index from 0, its kind or 0, the refusal or 0,
+ * the place, and the arguments. A cut frame is the last line, with refusal 14. HB_DUMP_MAX(len) bytes take any; the rest of out is kept.
+ * Refuses 12. */
 hb_answer hb_dump(const uint8_t *reel, size_t len, uint8_t *out, size_t out_len);
 
 #ifdef __cplusplus
