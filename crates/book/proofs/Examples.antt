@@ -11,7 +11,7 @@ use Rattle.table.specs.Codes.{isIn, lists, rxBwCodes, takes}
 use Rattle.table.specs.Laid.{find}
 use Rattle.table.specs.Number.{narrowOf, narrowsOf}
 use Rattle.refusal.specs.Numbers.{numberOf}
-use Rattle.codec.specs.Decoding.{decode, judged, known, lacking, stray}
+use Rattle.decoder.specs.Decoding.{decode, judged, known, lacking, stray}
 use Rattle.book.specs.declared.Answer.{Answer}
 use Rattle.book.specs.declared.Answer.the-variants.{Done, Refused}
 use Rattle.book.specs.Settings.{slotFor, slotOf}

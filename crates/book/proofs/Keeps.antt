@@ -9,7 +9,7 @@ use lib.Dec.{leb, ltb}
 use lib.ListN.{drop, length}
 use Rattle.refusal.specs.declared.Refusal.{Refusal}
 use Rattle.refusal.specs.declared.Refusal.the-variants.{BufferSize, NoRoom, NotAKind, NotHeld, OutputShort}
-use Rattle.codec.specs.Decoding.{decode}
+use Rattle.decoder.specs.Decoding.{decode}
 use Rattle.reel.specs.Reel.{reelOf}
 use Rattle.book.specs.declared.Answer.the-variants.{Done, Refused}
 use Rattle.book.specs.Settings.{lacks, settings, slotFor, slotOf}

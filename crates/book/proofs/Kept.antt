@@ -11,7 +11,7 @@ use borrow.Author.Tests.{eqb-false, eqb-true, leb-true, ltb-true, ne-eqb}
 use lib.Dec.{eqb, leb, ltb}
 use lib.ListN.{drop, getD, length, length-append}
 use Rattle.refusal.specs.declared.Refusal.the-variants.{NoRoom, NotAKind, NotHeld, OutputShort}
-use Rattle.codec.specs.Decoding.{decode}
+use Rattle.decoder.specs.Decoding.{decode}
 use Rattle.reel.specs.Reel.{reelOf}
 use Rattle.book.specs.declared.Answer.the-variants.{Done}
 use Rattle.book.specs.Settings.{lacks, settings, slotFor, slotOf}

@@ -28,9 +28,9 @@ use Rattle.table.specs.Table.{kinds, rows}
 use Rattle.refusal.specs.Numbers.{numberOf}
 use Rattle.refusal.specs.declared.Refusal.{Refusal}
 use Rattle.refusal.specs.declared.Refusal.the-variants.{NoRoom, NotAKind, NotHeld, OutputShort, ShortFrame, StrayBit, UnknownCode, UnknownOpcode, WrongLength}
-use Rattle.codec.specs.Building.{checked, makes}
-use Rattle.codec.specs.Decoding.{Reading, decode, judged, known, lackingAt, reading, refuses, strayAt}
-use Rattle.codec.specs.Narrowed.{argumentsIn, opcode}
+use Rattle.builder.specs.Building.{checked, makes}
+use Rattle.decoder.specs.Decoding.{Reading, decode, judged, known, lackingAt, reading, refuses, strayAt}
+use Rattle.table.specs.Narrowed.{argumentsIn, opcode}
 use Rattle.codec.proofs.Laws.{decode-checked}
 use Rattle.reel.specs.declared.Step.the-variants.{End}
 use Rattle.reel.specs.Reel.{reelOf, walk}

@@ -10,7 +10,7 @@ use lib.ListN.{drop, getD, length, take}
 use Rattle.refusal.specs.declared.Refusal.{Refusal}
 use Rattle.refusal.specs.declared.Refusal.the-variants.{BufferSize, NoRoom, NotAKind, NotHeld, NotWellFormed, OutputShort}
 use Rattle.refusal.specs.Numbers.{placeOf}
-use Rattle.codec.specs.Decoding.{Reading, decode, reading, refuses}
+use Rattle.decoder.specs.Decoding.{Reading, decode, reading, refuses}
 use Rattle.codec.proofs.Places.{decode-place, placeIn}
 use Rattle.reel.specs.Reel.{reelOf}
 use Rattle.book.specs.declared.Answer.{Answer}

@@ -13,7 +13,7 @@ use lib.ListN.{drop, getD, length, length-append, length-set, replicate, set, ta
 use lib.Seq.{drop-append-add, drop-append-le, drop-append-seam, length-paste, paste, set-append-left, take-append-add, take-append-le, take-length}
 use Rattle.refusal.specs.declared.Refusal.{Refusal}
 use Rattle.refusal.specs.declared.Refusal.the-variants.{NoRoom}
-use Rattle.codec.specs.Decoding.{decode}
+use Rattle.decoder.specs.Decoding.{decode}
 use Rattle.book.specs.declared.Answer.{Answer}
 use Rattle.book.specs.declared.Answer.the-variants.{Done, Refused}
 use Rattle.book.specs.Settings.{lacks, settings, sizeOf, slotOf}

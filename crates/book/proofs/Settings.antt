@@ -16,14 +16,14 @@ use Rattle.table.specs.Codes.{isIn}
 use Rattle.table.specs.Table.{action, kinds, lenOf, rowOf, rows}
 use Rattle.refusal.specs.declared.Refusal.{Refusal}
 use Rattle.refusal.specs.declared.Refusal.the-variants.{NotAKind}
-use Rattle.codec.specs.Building.{isKind}
-use Rattle.codec.specs.Decoding.{Reading, decode, decoded, reading, refuses}
-use Rattle.codec.specs.declared.Decoded.{Decoded}
+use Rattle.table.specs.Table.{isKind}
+use Rattle.decoder.specs.Decoding.{Reading, decode, decoded, reading, refuses}
+use Rattle.decoder.specs.declared.Decoded.{Decoded}
 use Rattle.codec.proofs.Handed.{decoded-reading, decoded-refuses}
 use Rattle.codec.proofs.Laws.{decode-kind}
 use Rattle.book.specs.Settings.{lacks, lengths, settings, sizeOf, slotFor, slotIn, slotOf}
 use Rattle.table.specs.Table as table
-use Rattle.codec.specs.declared.Answer.the-variants as decoder
+use Rattle.decoder.specs.declared.Answer.the-variants as decoder
 
 -- ---- a test that passes at every element passes at each
 

@@ -10,7 +10,7 @@ use native.Mathlib.Omega.{arith}
 use borrow.Author.Tests.{eqb-true, eq-eqb}
 use lib.Dec.{eqb}
 use lib.ListN.{length}
-use Rattle.codec.specs.Decoding.{Reading, decode, reading, refuses}
+use Rattle.decoder.specs.Decoding.{Reading, decode, reading, refuses}
 use Rattle.book.specs.Settings.{lengths, settings, sizeOf, slotFor, slotIn, slotOf}
 use Rattle.book.specs.Plain.{flat, held}
 use Rattle.book.specs.Book.{ours, start}

@@ -8,9 +8,9 @@ use lib.Dec.{eqb, leb, ltb}
 use lib.ListN.{length, drop}
 use Rattle.refusal.specs.declared.Refusal.{Refusal}
 use Rattle.refusal.specs.declared.Refusal.the-variants.{NoRoom, NotHeld, OutputShort, NotAKind}
-use Rattle.codec.specs.declared.Answer as codec
-use Rattle.codec.specs.declared.Answer.the-variants as decoder
-use Rattle.codec.specs.Decoding.{decode}
+use Rattle.decoder.specs.declared.Answer as codec
+use Rattle.decoder.specs.declared.Answer.the-variants as decoder
+use Rattle.decoder.specs.Decoding.{decode}
 use Rattle.reel.specs.Reel.{reelOf}
 use Rattle.book.specs.declared.Answer.{Answer}
 use Rattle.book.specs.declared.Answer.the-variants.{Done, Refused}

@@ -10,8 +10,8 @@ use Rattle.table.specs.Table as table
 use Rattle.table.specs.Table.{rows, rowOf, lenOf, action}
 use Rattle.refusal.specs.declared.Refusal.{Refusal}
 use Rattle.refusal.specs.declared.Refusal.the-variants.{NotAKind}
-use Rattle.codec.specs.Building.{isKind}
-use Rattle.codec.specs.Decoding.{Reading, reading, refuses, decode}
+use Rattle.table.specs.Table.{isKind}
+use Rattle.decoder.specs.Decoding.{Reading, reading, refuses, decode}
 
 -- how many kinds are settings: their slots are the numbers below
 abbrev pub settings : ℕ

@@ -87,21 +87,21 @@ fn size_of(slot: usize) -> usize
 fn slot_of(frame: &[u8]) -> usize
     ensures { λ r. ⌜ r ≡ slotOf (now (frame .entry)) ⌝ }
 {
-    let decoded = codec::decode(frame);
+    let decoded = decoder::decode(frame);
     let answer = decoded.answer;
-    let codec::Answer::Kind(kind) = answer else {
+    let decoder::Answer::Kind(kind) = answer else {
         return wide(ACTION);
     };
     slot_for(kind)
 }
 
 // The decoder's refusal as the book's answer.
-fn declined(answer: codec::Answer) -> Answer
+fn declined(answer: decoder::Answer) -> Answer
     ensures { λ r. ⌜ r ≡ declinedOf answer ⌝ }
 {
     match answer {
-        codec::Answer::Kind(_) => Answer::Done(0),
-        codec::Answer::Refused(why) => Answer::Refused(why),
+        decoder::Answer::Kind(_) => Answer::Done(0),
+        decoder::Answer::Refused(why) => Answer::Refused(why),
     }
 }
 
@@ -412,9 +412,9 @@ pub fn put(book: &mut [u8], frame: &[u8]) -> Answer
     let Answer::Done(_) = found else {
         return found;
     };
-    let decoded = codec::decode(frame);
+    let decoded = decoder::decode(frame);
     let answer = decoded.answer;
-    let codec::Answer::Kind(kind) = answer else {
+    let decoder::Answer::Kind(kind) = answer else {
         return declined(answer);
     };
     let slot = slot_for(kind);

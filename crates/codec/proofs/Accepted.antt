@@ -14,17 +14,19 @@ use Rattle.frame.specs.Layout.{bytes, tab, tabFrom, byteOf, maskOf, reads, fitt
 use Rattle.frame.proofs.Fields.{and-in, both-left, both-right, length-tab, getD-tab, checked-reads, reads-fit, frame-back, clean}
 use Rattle.table.specs.Number.{narrowOf, narrowsOf, codesOf}
 use Rattle.table.specs.Codes.{takes}
-use Rattle.table.specs.Table.{rows, opOf, lenOf, numbersOf, opNumber, rowOf}
+use Rattle.table.specs.Table.{kinds, rows, opOf, lenOf, numbersOf, opNumber, rowOf}
 use Rattle.table.specs.Laid.{find}
-use Rattle.table.proofs.Rows.{Laid, count, row-laid, row-found}
+use Rattle.table.proofs.Rows.{Laid, count, row-laid, row-found, found-row}
 use Rattle.refusal.specs.declared.Refusal.the-variants.{ShortFrame, UnknownOpcode, WrongLength, StrayBit, UnknownCode, NotAKind}
-use Rattle.codec.specs.Narrowed.{fieldsOf, frameOf, opcode, argumentsIn}
-use Rattle.codec.specs.Decoding as decoder
-use Rattle.codec.specs.Decoding.{reading, stray, strayAt, lacking, lackingAt, judged, known, decode}
-use Rattle.codec.specs.Building as builder
-use Rattle.codec.specs.Building.{makes, allows, outside, unless, checked}
+use Rattle.table.specs.Narrowed.{fieldsOf, frameOf, opcode, argumentsIn}
+use Rattle.codes.specs.Allowed.{allows}
+use Rattle.decoder.specs.Decoding as decoder
+use Rattle.decoder.specs.Decoding.{reading, stray, strayAt, lacking, lackingAt, judged, known, decode}
+use Rattle.builder.specs.Building as builder
+use Rattle.builder.specs.Building.{makes, outside, unless, checked}
 use Rattle.codec.proofs.Fitting.{starts, narrows, allFit, row-opcode, row-fits}
-use Rattle.codec.proofs.Returns.{found-row, length-narrows}
+use Rattle.table.proofs.Cells.{length-narrows}
+use Rattle.decoder.proofs.Stray.{none-stray, stray-clean}
 
 pub of-true : (b : Bool) → b ≡ true → T b
 of-true b e = subst T (sym e) tt
@@ -32,39 +34,6 @@ of-true b e = subst T (sym e) tt
 is-true : (b : Bool) → T b → b ≡ true
 is-true true t = refl
 is-true false t = absurd t
-
--- ---- stray bits
-
--- a frame without one is clean
-stray-none : (i : ℕ) (m : ℕ → ℕ) (f : List ℕ) → length f ≤ stray (tabFrom i (length f) m) f → (j : ℕ) → j < length f → bitAnd (bytes f j) (m (i + j)) ≡ bytes f j
-unfolding stray tabFrom
-stray-none i m [] h j l = absurd (not-suc-le-zero l)
-stray-none i m (b ∷ bs) h j l = go (eqb (bitAnd b (m i)) b) refl h (stray-none (suc i) m bs) j l
-  where
-    go : (t : Bool) → eqb (bitAnd b (m i)) b ≡ t → suc (length bs) ≤ cond t (suc (stray (tabFrom (suc i) (length bs) m) bs)) 0
-        → (length bs ≤ stray (tabFrom (suc i) (length bs) m) bs → (k : ℕ) → k < length bs → bitAnd (bytes bs k) (m (suc i + k)) ≡ bytes bs k)
-        → (k : ℕ) → k < suc (length bs) → bitAnd (bytes (b ∷ bs) k) (m (i + k)) ≡ bytes (b ∷ bs) k
-    go true q z ih zero l′ = ap (λ (x : ℕ). bitAnd b (m x)) (add-zero i) ∙ eqb→eq (bitAnd b (m i)) b (of-true _ q)
-    go true q z ih (suc k) l′ = ap (λ (x : ℕ). bitAnd (bytes bs k) (m x)) (add-suc i k ∙ sym (suc-add i k)) ∙ ih (le-of-suc-le-suc z) k (le-of-suc-le-suc l′)
-    go false q z ih k l′ = absurd (not-suc-le-zero z)
-
--- and the other way round
-clean-none : (i : ℕ) (m : ℕ → ℕ) (f : List ℕ) → ((j : ℕ) → j < length f → bitAnd (bytes f j) (m (i + j)) ≡ bytes f j) → stray (tabFrom i (length f) m) f ≡ length f
-unfolding stray tabFrom
-clean-none i m [] h = refl
-clean-none i m (b ∷ bs) h =
-    ap (λ (t : Bool). cond t (suc (stray (tabFrom (suc i) (length bs) m) bs)) 0)
-    (eq-eqb (bitAnd b (m i)) b (ap (λ (x : ℕ). bitAnd b (m x)) (sym (add-zero i)) ∙ h zero (suc-le-suc zero-le)))
-    ∙ ap suc (clean-none (suc i) m bs (λ j l. ap (λ (x : ℕ). bitAnd (bytes bs j) (m x)) (suc-add i j ∙ sym (add-suc i j)) ∙ h (suc j) (suc-le-suc l)))
-
-module _ (m : ℕ → ℕ) (f : List ℕ) where
-  pub none-stray : length f ≤ stray (tab (length f) m) f → (j : ℕ) → j < length f → bitAnd (bytes f j) (m j) ≡ bytes f j
-  unfolding tab
-  none-stray h j l = ap (λ (x : ℕ). bitAnd (bytes f j) (m x)) (sym (zero-add j)) ∙ stray-none 0 m f h j l
-
-  pub stray-clean : ((j : ℕ) → j < length f → bitAnd (bytes f j) (m j) ≡ bytes f j) → stray (tab (length f) m) f ≡ length f
-  unfolding tab
-  stray-clean h = clean-none 0 m f (λ j l. ap (λ (x : ℕ). bitAnd (bytes f j) (m x)) (zero-add j) ∙ h j l)
 
 -- ---- arguments inside their ranges
 
@@ -151,11 +120,11 @@ module _ (r vs : List ℕ) (lay : T (layout (lenOf r) (fieldsOf r))) (small : op
       let q : ltb (length (frameOf r vs)) (length (frameOf r vs)) ≡ false = le-ltb (length (frameOf r vs)) (length (frameOf r vs)) (omega arith) in
       simp (stray-back, z, q) (ap (reading k) arguments-back)
 
-decode-found : (f : List ℕ) (i : ℕ) → 2 ≤ length f → find rows (opcode f) (length f) ≡ i → i < 39 → decode f ≡ judged (suc i) (getD rows i []) f
+decode-found : (f : List ℕ) (i : ℕ) → 2 ≤ length f → find rows (opcode f) (length f) ≡ i → i < kinds → decode f ≡ judged (suc i) (getD rows i []) f
 unfolding decode
-decode-found f i h e l = simp (le-ltb (length f) 2 h, e, lt-ltb i 39 l)
+decode-found f i h e l = simp (le-ltb (length f) 2 h, e, lt-ltb i kinds l)
 
-pub row-decodes : (i : ℕ) (vs : List ℕ) → i < 39 → outside 1 (numbersOf (getD rows i [])) vs ≡ 0 → decode (frameOf (getD rows i []) vs) ≡ reading (suc i) vs
+pub row-decodes : (i : ℕ) (vs : List ℕ) → i < kinds → outside 1 (numbersOf (getD rows i [])) vs ≡ 0 → decode (frameOf (getD rows i []) vs) ≡ reading (suc i) vs
 row-decodes i vs h e =
     let r : List ℕ = getD rows i [] in
     let z : Laid r = row-laid i h in
@@ -169,7 +138,7 @@ row-decodes i vs h e =
 
 pub record Made (k : ℕ) (vs f : List ℕ) : Type 0 where
   pub low : 0 < k
-  pub high : k ≤ 39
+  pub high : k ≤ kinds
   pub none : outside 1 (numbersOf (rowOf k)) vs ≡ 0
   pub gives : frameOf (rowOf k) vs ≡ f
 
@@ -180,15 +149,15 @@ unless-made (suc n) g f e = absurd (let w : _≡_ {A = ℕ} 0 1 = cc in omega ar
 
 pub made : (k : ℕ) (vs f : List ℕ) → checked k vs ≡ makes f → Made k vs f
 unfolding checked
-made k vs f e = go (ltb 0 k) (leb k 39) refl refl e
+made k vs f e = go (ltb 0 k) (leb k kinds) refl refl e
   where
     n : ℕ
     n = outside 1 (numbersOf (rowOf k)) vs
 
-    go : (a b : Bool) → ltb 0 k ≡ a → leb k 39 ≡ b → cond (a && b) (unless n (frameOf (rowOf k) vs)) (builder.refuses NotAKind) ≡ makes f → Made k vs f
+    go : (a b : Bool) → ltb 0 k ≡ a → leb k kinds ≡ b → cond (a && b) (unless n (frameOf (rowOf k) vs)) (builder.refuses NotAKind) ≡ makes f → Made k vs f
     go true true p q z =
         let u = unless-made n (frameOf (rowOf k) vs) f z in
-        record { low = ltb-true 0 k p; high = leb→le k 39 (of-true _ q); none = u .0; gives = u .1 }
+        record { low = ltb-true 0 k p; high = leb→le k kinds (of-true _ q); none = u .0; gives = u .1 }
     go true false p q z = absurd (let w : _≡_ {A = ℕ} 0 1 = cc in omega arith)
     go false b p q z = absurd (let w : _≡_ {A = ℕ} 0 1 = cc in omega arith)
 
@@ -197,7 +166,7 @@ made k vs f e = go (ltb 0 k) (leb k 39) refl refl e
 pub record Read (f : List ℕ) (k : ℕ) (vs : List ℕ) : Type 0 where
   pub at : ℕ
   pub kind : k ≡ suc at
-  pub row : at < 39
+  pub row : at < kinds
   pub gives : frameOf (getD rows at []) vs ≡ f
   pub none : outside 1 (numbersOf (getD rows at [])) vs ≡ 0
 
@@ -208,7 +177,7 @@ frame-again r f eo el h =
     ap₂ (λ (n o : ℕ). tab n (byteOf (fieldsOf r) (o ∷ argumentsIn r f))) el (sym eo)
     ∙ frame-back (fieldsOf r) f (none-stray (maskOf (fieldsOf r)) f h)
 
-judged-read : (i k : ℕ) (f vs : List ℕ) → i < 39 → opcode f ≡ opOf (getD rows i []) → lenOf (getD rows i []) ≡ length f → judged (suc i) (getD rows i []) f ≡ reading k vs → Read f k vs
+judged-read : (i k : ℕ) (f vs : List ℕ) → i < kinds → opcode f ≡ opOf (getD rows i []) → lenOf (getD rows i []) ≡ length f → judged (suc i) (getD rows i []) f ≡ reading k vs → Read f k vs
 unfolding judged
 judged-read i k f vs h eo el e = go (ltb (strayAt r f) (length f)) (ltb (lackingAt r f) (length f)) refl refl e
   where
@@ -235,16 +204,16 @@ judged-read i k f vs h eo el e = go (ltb (strayAt r f) (length f)) (ltb (lacking
 
 pub decode-read : (f : List ℕ) (k : ℕ) (vs : List ℕ) → decode f ≡ reading k vs → Read f k vs
 unfolding decode
-decode-read f k vs e = go (ltb (length f) 2) (ltb i 39) (known rows (opcode f)) refl e
+decode-read f k vs e = go (ltb (length f) 2) (ltb i kinds) (known rows (opcode f)) refl e
   where
     i : ℕ
     i = find rows (opcode f) (length f)
 
-    go : (a b d : Bool) → ltb i 39 ≡ b → cond a (decoder.refuses ShortFrame) (cond b (judged (suc i) (getD rows i []) f) (cond d (decoder.refuses WrongLength) (decoder.refuses UnknownOpcode))) ≡ reading k vs → Read f k vs
+    go : (a b d : Bool) → ltb i kinds ≡ b → cond a (decoder.refuses ShortFrame) (cond b (judged (suc i) (getD rows i []) f) (cond d (decoder.refuses WrongLength) (decoder.refuses UnknownOpcode))) ≡ reading k vs → Read f k vs
     go true b d p z = absurd (let w : _≡_ {A = ℕ} 0 1 = cc in omega arith)
     go false false true p z = absurd (let w : _≡_ {A = ℕ} 0 1 = cc in omega arith)
     go false false false p z = absurd (let w : _≡_ {A = ℕ} 0 1 = cc in omega arith)
     go false true d p z =
-        let l : i < 39 = ltb-true _ _ p in
+        let l : i < kinds = ltb-true _ _ p in
         let g = found-row rows (opcode f) (length f) (rw count l) in
         judged-read i k f vs l (sym (g .0)) (g .1) z

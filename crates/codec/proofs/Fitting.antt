@@ -9,7 +9,7 @@ use lib.ListN.{length, getD}
 use Rattle.frame.specs.Field.{size}
 use Rattle.frame.proofs.Fields.{both-left, both-right}
 use Rattle.table.specs.Number.{narrowOf, plainOf}
-use Rattle.table.specs.Table.{rows, opOf, lenOf, numbersOf}
+use Rattle.table.specs.Table.{kinds, rows, opOf, lenOf, numbersOf}
 
 -- the field of the number c starts below n
 unfoldable pub starts : ℕ → ℕ → Bool
@@ -39,10 +39,10 @@ at [] t k h = absurd (not-suc-le-zero h)
 at (r ∷ rs) t zero h = both-left (fits r) (every rs) t
 at (r ∷ rs) t (suc k) h = at rs (both-right (fits r) (every rs) t) k (le-of-suc-le-suc h)
 
-pub row-opcode : (k : ℕ) → k < 39 → opOf (getD rows k []) < 65536
+pub row-opcode : (k : ℕ) → k < kinds → opOf (getD rows k []) < 65536
 unfolding fits
 row-opcode k h = ltb→lt _ _ (both-left (ltb (opOf (getD rows k [])) 65536) (allFit (lenOf (getD rows k [])) (numbersOf (getD rows k []))) (at rows right k h))
 
-pub row-fits : (k : ℕ) → k < 39 → T (allFit (lenOf (getD rows k [])) (numbersOf (getD rows k [])))
+pub row-fits : (k : ℕ) → k < kinds → T (allFit (lenOf (getD rows k [])) (numbersOf (getD rows k [])))
 unfolding fits
 row-fits k h = both-right (ltb (opOf (getD rows k [])) 65536) (allFit (lenOf (getD rows k [])) (numbersOf (getD rows k []))) (at rows right k h)

@@ -7,15 +7,15 @@ use native.Mathlib.Omega.{arith}
 use lib.ListN.{length, take, replicate}
 use lib.Seq.{take-at}
 use Rattle.refusal.specs.declared.Refusal.{Refusal}
-use Rattle.codec.specs.declared.Answer.the-variants.{Kind, Refused}
-use Rattle.codec.specs.declared.Decoded.{Decoded}
-use Rattle.codec.specs.declared.Verdict.the-variants.{Frame}
-use Rattle.codec.specs.declared.Verdict.the-variants as verdict
-use Rattle.codec.specs.declared.Built.{Built}
-use Rattle.codec.specs.Decoding as decoder
-use Rattle.codec.specs.Decoding.{Reading, reading, decode, decoded}
-use Rattle.codec.specs.Building as builder
-use Rattle.codec.specs.Building.{Making, makes, checked, built}
+use Rattle.decoder.specs.declared.Answer.the-variants.{Kind, Refused}
+use Rattle.decoder.specs.declared.Decoded.{Decoded}
+use Rattle.builder.specs.declared.Verdict.the-variants.{Frame}
+use Rattle.builder.specs.declared.Verdict.the-variants as verdict
+use Rattle.builder.specs.declared.Built.{Built}
+use Rattle.decoder.specs.Decoding as decoder
+use Rattle.decoder.specs.Decoding.{Reading, reading, decode, decoded}
+use Rattle.builder.specs.Building as builder
+use Rattle.builder.specs.Building.{Making, makes, checked, built}
 use Rattle.codec.proofs.Laws.{decode-checked, checked-decode}
 
 -- ---- the decoder's record

@@ -6,7 +6,7 @@
 --     decode-refuses             the decoder refuses only what the checked builder never makes
 --     decode-refuses-all         and all of it
 --     plain-checked              where the checked builder makes a frame, the plain builder gives the same bytes
---     decode-kind                a frame that decodes has a kind 1 to 39 and its row's length
+--     decode-kind                a frame that decodes has a kind of the table and its row's length
 -- None of them has a proof for each kind: they follow from the tests computed over the table's rows and the laws of fields.
 -- Assumes nothing.
 use mathlib.Core.Path.{_≡_, refl, sym, ap, ap₂, _∙_}
@@ -21,14 +21,14 @@ use Rattle.frame.specs.Field.{part}
 use Rattle.frame.specs.Layout.{byteOf}
 use Rattle.frame.proofs.Fields.{tab-ext, length-tab}
 use Rattle.table.specs.Number.{narrowOf, plainOf, narrowsOf, plainsOf}
-use Rattle.table.specs.Table.{rows, opOf, lenOf, numbersOf, opNumber, rowOf, plain}
+use Rattle.table.specs.Table.{kinds, isKind, rows, opOf, lenOf, numbersOf, opNumber, rowOf, plain}
 use Rattle.table.proofs.Rows.{plain-is}
 use Rattle.refusal.specs.declared.Refusal.{Refusal}
-use Rattle.codec.specs.Narrowed.{fieldsOf}
-use Rattle.codec.specs.Decoding as decoder
-use Rattle.codec.specs.Decoding.{Reading, reading, decode}
-use Rattle.codec.specs.Building as builder
-use Rattle.codec.specs.Building.{Making, makes, unless, isKind, checked}
+use Rattle.table.specs.Narrowed.{fieldsOf}
+use Rattle.decoder.specs.Decoding as decoder
+use Rattle.decoder.specs.Decoding.{Reading, reading, decode}
+use Rattle.builder.specs.Building as builder
+use Rattle.builder.specs.Building.{Making, makes, unless, checked}
 use Rattle.codec.proofs.Fitting.{row-fits}
 use Rattle.codec.proofs.Accepted.{Inside, inside, Made, made, Read, decode-read, row-decodes}
 use Rattle.codec.proofs.Narrowing.{bytes-plain}
@@ -45,7 +45,7 @@ pub checked-decode : (f : List ℕ) (k : ℕ) (vs : List ℕ) → decode f ≡ r
 unfolding checked unless
 checked-decode f k vs e =
     let d : Read f k vs = decode-read f k vs e in
-    let p : isKind k ≡ true = ap₂ _&&_ (lt-ltb 0 k (omega (arith, d .kind))) (le-leb k 39 (omega (arith, d .kind, d .row))) in
+    let p : isKind k ≡ true = ap₂ _&&_ (lt-ltb 0 k (omega (arith, d .kind))) (le-leb k kinds (omega (arith, d .kind, d .row))) in
     let q : k - 1 ≡ d .at = omega (arith, d .kind) in
     simp (p, q, d .none) (ap makes (d .gives))
 
@@ -77,7 +77,7 @@ pub plain-checked : (k : ℕ) (vs f : List ℕ) → checked k vs ≡ makes f →
 unfolding byteOf narrowsOf narrowOf plainOf
 plain-checked k vs f e =
     let m : Made k vs f = made k vs f e in
-    let l : k - 1 < 39 = omega (arith, m .low, m .high) in
+    let l : k - 1 < kinds = omega (arith, m .low, m .high) in
     let n : Inside (numbersOf (rowOf k)) vs = inside 0 (numbersOf (rowOf k)) vs (m .none) in
     plain-is (k - 1) l vs
     ∙ tab-ext (lenOf (rowOf k)) (byteOf (plainsOf (opNumber ∷ numbersOf (rowOf k))) (opOf (rowOf k) ∷ vs)) (byteOf (fieldsOf (rowOf k)) (opOf (rowOf k) ∷ vs))
@@ -86,7 +86,7 @@ plain-checked k vs f e =
 
 -- ---- what the book asks
 
-pub decode-kind : (f : List ℕ) (k : ℕ) (vs : List ℕ) → decode f ≡ reading k vs → (0 < k) × (k ≤ 39) × (length f ≡ lenOf (rowOf k))
+pub decode-kind : (f : List ℕ) (k : ℕ) (vs : List ℕ) → decode f ≡ reading k vs → (0 < k) × (k ≤ kinds) × (length f ≡ lenOf (rowOf k))
 decode-kind f k vs e =
     let d : Read f k vs = decode-read f k vs e in
     let q : d .at ≡ k - 1 = omega (arith, d .kind) in

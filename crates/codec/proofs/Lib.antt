@@ -1,15 +1,6 @@
-pub mod Listed
-pub mod Steps
-pub mod Masks
-pub mod Words
-pub mod Returns
-pub mod Seeking
 pub mod Fitting
 pub mod Accepted
-pub mod Clean
 pub mod Narrowing
-pub mod Typed
 pub mod Places
 pub mod Laws
 pub mod Handed
-pub mod Outcome

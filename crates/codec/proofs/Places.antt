@@ -11,19 +11,19 @@ use lib.ListN.{length, getD, drop, length-take}
 use Rattle.frame.specs.Layout.{byteOf}
 use Rattle.frame.proofs.Fields.{length-tab}
 use Rattle.table.specs.Number.{plainsOf}
-use Rattle.table.specs.Table.{rows, opOf, lenOf, countOf, numbersOf, rowOf, opNumber, plainRow}
+use Rattle.table.specs.Table.{kinds, isKind, rows, opOf, lenOf, countOf, numbersOf, rowOf, opNumber, plainRow}
 use Rattle.table.specs.Laid.{find}
-use Rattle.table.proofs.Rows.{count, row-laid, plain-is}
+use Rattle.table.proofs.Rows.{count, row-laid, plain-is, found-row}
 use Rattle.refusal.specs.declared.Refusal.the-variants.{ShortFrame, UnknownOpcode, WrongLength, StrayBit, UnknownCode, NotAKind}
 use Rattle.refusal.specs.Numbers.{placeOf}
-use Rattle.codec.specs.Narrowed.{fieldsOf, frameOf, opcode, argumentsIn}
-use Rattle.codec.specs.Decoding as decoder
-use Rattle.codec.specs.Decoding.{Reading, reading, strayAt, lackingAt, judged, known, decode}
-use Rattle.codec.specs.Building as builder
-use Rattle.codec.specs.Building.{Making, makes, allows, outside, unless, checked, isKind}
-use Rattle.codec.specs.Typed.{coded, rangesOf, called, plainBy}
-use Rattle.codec.proofs.Returns.{found-row}
-use Rattle.codec.proofs.Typed.{length-ranges}
+use Rattle.table.specs.Narrowed.{fieldsOf, frameOf, opcode, argumentsIn}
+use Rattle.codes.specs.Allowed.{allows}
+use Rattle.decoder.specs.Decoding as decoder
+use Rattle.decoder.specs.Decoding.{Reading, reading, strayAt, lackingAt, judged, known, decode}
+use Rattle.builder.specs.Building as builder
+use Rattle.builder.specs.Building.{Making, makes, outside, unless, checked}
+use Rattle.builder.specs.Typed.{coded, rangesOf, called, plainBy}
+use Rattle.builder.proofs.Typed.{length-ranges}
 
 -- ---- the decoder
 
@@ -44,16 +44,16 @@ module _ (k : ℕ) (r f : List ℕ) (short : length f ≤ 12) where
 
 pub decode-place : (f : List ℕ) → placeIn (decode f) ≤ 12
 unfolding decode
-decode-place f = by (ltb (length f) 2) (ltb i 39) refl (known rows (opcode f))
+decode-place f = by (ltb (length f) 2) (ltb i kinds) refl (known rows (opcode f))
   where
     i : ℕ
     i = find rows (opcode f) (length f)
 
-    by : (a b : Bool) → ltb i 39 ≡ b → (c : Bool)
+    by : (a b : Bool) → ltb i kinds ≡ b → (c : Bool)
         → placeIn (cond a (decoder.refuses ShortFrame) (cond b (judged (suc i) (getD rows i []) f) (cond c (decoder.refuses WrongLength) (decoder.refuses UnknownOpcode)))) ≤ 12
     by true b e c = omega arith
     by false true e c =
-        let l : i < 39 = ltb-true i 39 e in
+        let l : i < kinds = ltb-true i kinds e in
         let s : lenOf (getD rows i []) ≡ length f = found-row rows (opcode f) (length f) (omega (arith, count)) .1 in
         judged-place (suc i) (getD rows i []) f (omega (arith, row-laid i l .most))
     by false false e true = omega arith
@@ -92,11 +92,11 @@ unless-within (suc n) f h l = record { place = h; long = omega arith }
 few-numbers : (r : List ℕ) → length (numbersOf r) ≤ countOf r
 few-numbers r = omega (arith, length-take (countOf r) (drop 4 r))
 
-kind-low : (k : ℕ) → isKind k ≡ true → k - 1 < 39
-kind-low k e = by (ltb 0 k) (leb k 39) refl e
+kind-low : (k : ℕ) → isKind k ≡ true → k - 1 < kinds
+kind-low k e = by (ltb 0 k) (leb k kinds) refl e
   where
-    by : (a b : Bool) → leb k 39 ≡ b → (a && b) ≡ true → k - 1 < 39
-    by true true q z = omega (arith, leb-true k 39 q)
+    by : (a b : Bool) → leb k kinds ≡ b → (a && b) ≡ true → k - 1 < kinds
+    by true true q z = omega (arith, leb-true k kinds q)
     by true false q z = absurd (subst T (sym z) tt)
     by false b q z = absurd (subst T (sym z) tt)
 
@@ -106,7 +106,7 @@ checked-within k vs = by (isKind k) refl
   where
     by : (b : Bool) → isKind k ≡ b → Within (cond b (unless (outside 1 (numbersOf (rowOf k)) vs) (frameOf (rowOf k) vs)) (builder.refuses NotAKind))
     by true e =
-        let l : k - 1 < 39 = kind-low k e in
+        let l : k - 1 < kinds = kind-low k e in
         let z = row-laid (k - 1) l in
         unless-within _ _ (omega (arith, outside-most 1 (numbersOf (rowOf k)) vs, few-numbers (rowOf k), z .few)) (omega (arith, length-tab (lenOf (rowOf k)) (byteOf (fieldsOf (rowOf k)) (opOf (rowOf k) ∷ vs)), z .most))
     by false e = record { place = omega arith; long = omega arith }
@@ -118,7 +118,7 @@ plain-within k vs = by (isKind k) refl
     by : (b : Bool) → isKind k ≡ b
         → Within (cond b (unless (outside 1 (rangesOf (numbersOf (rowOf k)) (getD coded (k - 1) 0)) vs) (plainRow (rowOf k) vs)) (builder.refuses NotAKind))
     by true e =
-        let l : k - 1 < 39 = kind-low k e in
+        let l : k - 1 < kinds = kind-low k e in
         let z = row-laid (k - 1) l in
         let n : length (plainRow (rowOf k) vs) ≡ lenOf (rowOf k) = ap length (plain-is (k - 1) l vs) ∙ length-tab (lenOf (rowOf k)) (byteOf (plainsOf (opNumber ∷ numbersOf (rowOf k))) (opOf (rowOf k) ∷ vs)) in
         unless-within _ _ (omega (arith, outside-most 1 (rangesOf (numbersOf (rowOf k)) (getD coded (k - 1) 0)) vs, length-ranges (numbersOf (rowOf k)) (getD coded (k - 1) 0), few-numbers (rowOf k), z .few)) (omega (arith, z .most))

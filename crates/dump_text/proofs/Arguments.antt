@@ -6,11 +6,11 @@ use Prim.Native.Nat.{ℕ, _+_, _-_, _≤_}
 use native.Mathlib.Omega.{arith}
 use lib.ListN.{length, getD, drop, replicate, length-append, length-take}
 use Rattle.table.specs.Table.{rows, countOf, numbersOf}
-use Rattle.codec.specs.declared.Answer.the-variants.{Kind, Refused}
-use Rattle.codec.specs.declared.Decoded.{Decoded}
-use Rattle.codec.specs.Narrowed.{Ready}
-use Rattle.codec.specs.Decoding.{Reading, reading, refuses, decode, decoded}
-use Rattle.codec.proofs.Returns.{ready}
+use Rattle.decoder.specs.declared.Answer.the-variants.{Kind, Refused}
+use Rattle.decoder.specs.declared.Decoded.{Decoded}
+use Rattle.table.specs.Narrowed.{Ready}
+use Rattle.decoder.specs.Decoding.{Reading, reading, refuses, decode, decoded}
+use Rattle.table.proofs.Rows.{ready}
 use Rattle.codec.proofs.Accepted.{Inside, inside, Read, decode-read}
 
 pub decode-few : (f : List ℕ) (k : ℕ) (vs : List ℕ) → decode f ≡ reading k vs → length vs ≤ 9

@@ -12,7 +12,7 @@ use lib.ListN.{length, take, drop, drop-of-length-le}
 use lib.Seq.{drop-drop, drop-append-seam}
 use borrow.Author.Tests.{leb-true, leb-false}
 use Rattle.refusal.specs.declared.Refusal.the-variants.{ReelCut}
-use Rattle.codec.specs.Decoding.{refuses, decode}
+use Rattle.decoder.specs.Decoding.{refuses, decode}
 use Rattle.reel.specs.Reel.{reelOf, Unreeled, unreel}
 use Rattle.reel.proofs.Reels.{unreel-nil, unreel-frame, unreel-cut, unreel-reel, reel-again, unreel-rest}
 use Rattle.dump_text.specs.Text.{lineOf, textFrom, textAt, textOf}

@@ -13,7 +13,7 @@ use lib.Seq.{sets, sets-eq}
 use borrow.Author.Tests.{leb-true, ltb-true}
 use Rattle.refusal.specs.declared.Refusal.{Refusal}
 use Rattle.refusal.specs.declared.Refusal.the-variants.{ReelCut}
-use Rattle.codec.specs.Decoding.{refuses, decode}
+use Rattle.decoder.specs.Decoding.{refuses, decode}
 use Rattle.reel.specs.declared.Cursor.{Cursor}
 use Rattle.reel.specs.Reel.{Unreeled, unreel}
 use Rattle.reel.proofs.Reels.{unreel-nil}

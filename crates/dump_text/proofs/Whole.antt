@@ -10,7 +10,7 @@ use lib.ListN.{length, take, drop, getD, length-append, length-drop, drop-of-len
 use lib.Seq.{drop-cons, drop-drop, drop-append-seam, drop-at, length-take-le, take-append-seam, take-add, take-all, take-at, take-length}
 use borrow.Author.Tests.{lt-ltb, le-leb, lt-leb}
 use Rattle.refusal.specs.declared.Refusal.the-variants.{ReelCut, OutputShort}
-use Rattle.codec.specs.Decoding.{refuses, decode}
+use Rattle.decoder.specs.Decoding.{refuses, decode}
 use Rattle.reel.specs.Reel.{unreel}
 use Rattle.dump_text.specs.Text.{lineOf, textAt, textOf}
 use Rattle.dump_text.specs.declared.Passed.{Passed}

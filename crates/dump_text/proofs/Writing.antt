@@ -10,7 +10,7 @@ use lib.ListN.{length, set, take, getD, length-append}
 use lib.Seq.{sets, length-sets, take-suc}
 use Rattle.refusal.specs.declared.Refusal.{Refusal}
 use Rattle.refusal.specs.Numbers.{numberOf, placeOf}
-use Rattle.codec.specs.Decoding.{reading, refuses}
+use Rattle.decoder.specs.Decoding.{reading, refuses}
 use Rattle.reading.specs.Decimal.{digit, decimal}
 use Rattle.reading.proofs.Decimals.{decimal-one, decimal-more, decimal-length}
 use Rattle.dump_text.specs.Text.{blanked, lineOf}

@@ -8,7 +8,7 @@ use lib.Dec.{ltb, leb}
 use lib.ListN.{length, drop}
 use lib.Seq.{sets}
 use Rattle.refusal.specs.declared.Refusal.the-variants.{ReelCut}
-use Rattle.codec.specs.Decoding.{refuses, decode}
+use Rattle.decoder.specs.Decoding.{refuses, decode}
 use Rattle.reel.specs.Reel.{Unreeled}
 use Rattle.dump_text.specs.declared.Passed.{Passed}
 use Rattle.dump_text.specs.Text.{lineOf}

@@ -5,7 +5,7 @@ use mathlib.Core.List.{List, [], _∷_, _++_}
 use Rattle.refusal.specs.declared.Refusal.the-variants.{ReelCut}
 use Rattle.refusal.specs.Numbers.{numberOf, placeOf}
 use Rattle.reading.specs.Decimal.{decimal}
-use Rattle.codec.specs.Decoding.{Reading, reading, refuses, decode}
+use Rattle.decoder.specs.Decoding.{Reading, reading, refuses, decode}
 use Rattle.reel.specs.Reel.{unreel}
 
 -- ---- a line

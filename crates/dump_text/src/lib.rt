@@ -6,12 +6,12 @@ ghost use mathlib.Core.List.{[], _∷_, _++_};
 ghost use Prim.Native.Nat.{_+_, _≤_};
 ghost use lib.ListN.{length, take};
 ghost use Rattle.reading.specs.Decimal.{digit, decimal};
-ghost use Rattle.codec.specs.Decoding.{reading, refuses, decode};
+ghost use Rattle.decoder.specs.Decoding.{reading, refuses, decode};
 ghost use Rattle.reel.specs.Reel.{unreel};
 ghost use Rattle.dump_text.specs.Text.{blanked, lineOf, textOf};
 ghost use Rattle.dump_text.specs.Parts.{goesOn, linesOf, Puts, Passes};
 ghost use Rattle.dump_text.specs.Whole.{dumped, filled, laidAt, Lays};
-use codec::Answer;
+use decoder::Answer;
 use reel::Cursor;
 use reel::Step;
 use refusal::Refusal;
@@ -129,7 +129,7 @@ fn put_line(out: &mut [u8], at: usize, index: u64, frame: &[u8]) -> usize
     ensures { λ r. ⌜ Puts (lineOf index (decode (now (frame .entry)))) at (now (out .entry)) r (now (out .exit)) ⌝ }
     ensures { λ r. ⌜ r ≤ at + 273 ⌝ }
 {
-    let d = codec::decode(frame);
+    let d = decoder::decode(frame);
     let answer = d.answer;
     match answer {
         Answer::Kind(kind) => {

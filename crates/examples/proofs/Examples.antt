@@ -10,10 +10,10 @@ use Rattle.table.specs.Codes.{lists, rxBwCodes, isIn, takes}
 use Rattle.table.specs.Table.{plain}
 use Rattle.table.specs.Laid.{find}
 use Rattle.refusal.specs.Numbers.{numberOf, placeOf}
-use Rattle.codec.specs.Decoding as decoder
-use Rattle.codec.specs.Decoding.{Reading, reading, stray, lacking, judged, known, decode}
-use Rattle.codec.specs.Building as builder
-use Rattle.codec.specs.Building.{Making, makes, outside, unless, checked}
+use Rattle.decoder.specs.Decoding as decoder
+use Rattle.decoder.specs.Decoding.{Reading, reading, stray, lacking, judged, known, decode}
+use Rattle.builder.specs.Building as builder
+use Rattle.builder.specs.Building.{Making, makes, outside, unless, checked}
 use Rattle.status.specs.Codes.{cmdCode, resetCode, modeCode}
 use Rattle.status.specs.Words.{statusOf, intrOf, cmdIn, resetIn, modeIn}
 use Rattle.status.specs.declared.CmdStatus.{CmdStatus}

@@ -13,10 +13,10 @@ use Rattle.reading.specs.declared.Text.{Text}
 use Rattle.reading.specs.Level.{textOf}
 use Rattle.refusal.specs.declared.Refusal.{Refusal}
 use Rattle.refusal.specs.Numbers.{placeOf}
-use Rattle.codec.specs.Decoding.{Reading, reading, refuses, decode}
-use Rattle.codec.specs.Building as builder
-use Rattle.codec.specs.Building.{Making, makes, checked}
-use Rattle.codec.specs.Typed.{plainBy}
+use Rattle.decoder.specs.Decoding.{Reading, reading, refuses, decode}
+use Rattle.builder.specs.Building as builder
+use Rattle.builder.specs.Building.{Making, makes, checked}
+use Rattle.builder.specs.Typed.{plainBy}
 use Rattle.codec.proofs.Laws.{decode-kind}
 use Rattle.codec.proofs.Places.{placeIn, decode-place, Within, checked-within, plain-within}
 use Rattle.dump_text.proofs.Arguments.{decode-few}

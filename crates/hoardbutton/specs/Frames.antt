@@ -1,12 +1,12 @@
 -- The frame and the decoded frame as C has them: the fields of codec's records as numbers of 32 bits. proofs/Whole.antt says that none is cut.
 -- Assumes nothing.
-use Rattle.codec.specs.declared.Answer.{Answer}
-use Rattle.codec.specs.declared.Answer.the-variants.{Kind, Refused}
-use Rattle.codec.specs.declared.Decoded.{Decoded}
-use Rattle.codec.specs.declared.Verdict.{Verdict}
-use Rattle.codec.specs.declared.Verdict.the-variants.{Frame}
-use Rattle.codec.specs.declared.Verdict.the-variants as verdict
-use Rattle.codec.specs.declared.Built.{Built}
+use Rattle.decoder.specs.declared.Answer.{Answer}
+use Rattle.decoder.specs.declared.Answer.the-variants.{Kind, Refused}
+use Rattle.decoder.specs.declared.Decoded.{Decoded}
+use Rattle.builder.specs.declared.Verdict.{Verdict}
+use Rattle.builder.specs.declared.Verdict.the-variants.{Frame}
+use Rattle.builder.specs.declared.Verdict.the-variants as verdict
+use Rattle.builder.specs.declared.Built.{Built}
 use Rattle.hoardbutton.specs.declared.answers.HbAnswer.{HbAnswer}
 use Rattle.hoardbutton.specs.declared.frames.HbFrame.{HbFrame}
 use Rattle.hoardbutton.specs.declared.frames.HbDecoded.{HbDecoded}

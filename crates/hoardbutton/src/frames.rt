@@ -1,16 +1,16 @@
 // Frames: the plain and the checked builder, and the decoder.
 ghost use mathlib.Core.Path.{_≡_};
-ghost use Rattle.codec.specs.Decoding.{decode, decoded};
-ghost use Rattle.codec.specs.Building.{checked, built};
-ghost use Rattle.codec.specs.Typed.{plainBy};
+ghost use Rattle.decoder.specs.Decoding.{decode, decoded};
+ghost use Rattle.builder.specs.Building.{checked, built};
+ghost use Rattle.builder.specs.Typed.{plainBy};
 ghost use Rattle.hoardbutton.specs.Frames.{verdictC, kindC, frameC, decodedC};
 use crate::answers::HbAnswer;
 use crate::answers::done;
 use crate::answers::low;
 use crate::answers::refused;
-use codec::Answer;
-use codec::Built;
-use codec::Verdict;
+use builder::Built;
+use builder::Verdict;
+use decoder::Answer;
 
 // A frame's length and bytes, zeros behind them; or a refusal with its place.
 #[repr(C)]
@@ -67,21 +67,21 @@ fn framed(b: Built) -> HbFrame
 pub extern "C" fn hb_plain(kind: u64, args: &[u64]) -> HbFrame
     ensures { λ r. ⌜ r ≡ frameC (built (plainBy kind (now (args .entry)))) ⌝ }
 {
-    framed(codec::plain(kind, args))
+    framed(builder::plain(kind, args))
 }
 
 #[no_mangle]
 pub extern "C" fn hb_checked(kind: u64, args: &[u64]) -> HbFrame
     ensures { λ r. ⌜ r ≡ frameC (built (checked kind (now (args .entry)))) ⌝ }
 {
-    framed(codec::checked(kind, args))
+    framed(builder::checked(kind, args))
 }
 
 #[no_mangle]
 pub extern "C" fn hb_decode(frame: &[u8]) -> HbDecoded
     ensures { λ r. ⌜ r ≡ decodedC (decoded (decode (now (frame .entry)))) ⌝ }
 {
-    let d = codec::decode(frame);
+    let d = decoder::decode(frame);
     let args = d.args;
     let a = d.answer;
     let said = kind_told(a);

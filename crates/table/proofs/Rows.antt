@@ -1,9 +1,9 @@
 -- What the rows of the table have in common: one test, computed over all 39, and the laws that turn it into the rule of each row.
 -- Assumes nothing.
-use mathlib.Core.Path.{_≡_, refl, sym, ap, _∙_}
-use mathlib.Core.Bool.{Bool, true, false, _&&_}
+use mathlib.Core.Path.{_≡_, refl, sym, ap, _∙_, subst}
+use mathlib.Core.Bool.{Bool, true, false, cond, _&&_}
 use mathlib.Core.List.{List, [], _∷_}
-use Prim.Native.Nat.{ℕ, zero, suc, _+_, _≤_, _<_, min}
+use Prim.Native.Nat.{ℕ, zero, suc, _+_, _-_, _≤_, _<_, min}
 use native.Mathlib.Nat.{le-of-suc-le-suc, not-suc-le-zero, zero-add, suc-add, add-suc, add-zero}
 use native.Mathlib.Omega.{arith}
 use lib.Dec.{T, leb, eqb, leb→le, eqb→eq}
@@ -14,6 +14,7 @@ use Rattle.frame.proofs.Fields.{both-left, both-right}
 use Rattle.frame.proofs.Puts.{puts-zero}
 use Rattle.table.specs.Number.{narrowOf, plainOf, narrowsOf, plainsOf}
 use Rattle.table.specs.Table.{kinds, rows, rowAt, opOf, lenOf, countOf, numbersOf, opNumber, plainRow}
+use Rattle.table.specs.Narrowed.{fieldsOf, Ready}
 use Rattle.table.specs.Laid.{laid, allLaid, slotsFrom, find, allFound}
 
 -- ---- the test
@@ -77,7 +78,32 @@ row-laid k h = laid-at rows laid-part k h
 -- a place of the table has its row
 pub row-at : (k : ℕ) → k < kinds → rowAt k ≡ getD rows k []
 unfolding rowAt
-row-at k h = let e : min k 38 ≡ k = omega arith in ap (λ (i : ℕ). getD rows i []) e
+row-at k h = let e : min k (kinds - 1) ≡ k = omega arith in ap (λ (i : ℕ). getD rows i []) e
+
+-- and the code can follow it
+pub ready : (i : ℕ) → i < kinds → Ready (getD rows i [])
+ready i h =
+    let z = row-laid i h in
+    let r : List ℕ = getD rows i [] in
+    record { few = z .few; most = z .most; inside = both-left (soundAll (lenOf r) (fieldsOf r)) (disjoint (lenOf r) (fieldsOf r)) (z .apart-narrowed) }
+
+pub row-ready : (i : ℕ) (r : List ℕ) → r ≡ rowAt i → i < kinds → Ready r
+row-ready i r e h = subst (λ (x : List ℕ). Ready x) (sym (e ∙ row-at i h)) (ready i h)
+
+-- a row that is found has the opcode and the length
+pub found-row : (rs : List (List ℕ)) (o l : ℕ) → find rs o l < length rs → (opOf (getD rs (find rs o l) []) ≡ o) × (lenOf (getD rs (find rs o l) []) ≡ l)
+unfolding find
+found-row [] o l h = absurd (not-suc-le-zero h)
+found-row (r ∷ rs) o l h = go (eqb (opOf r) o) (eqb (lenOf r) l) refl refl h (found-row rs o l)
+  where
+    Both : List ℕ → Type 0
+    Both x = (opOf x ≡ o) × (lenOf x ≡ l)
+
+    go : (a b : Bool) → eqb (opOf r) o ≡ a → eqb (lenOf r) l ≡ b → cond (a && b) 0 (suc (find rs o l)) < suc (length rs)
+        → (find rs o l < length rs → Both (getD rs (find rs o l) [])) → Both (getD (r ∷ rs) (cond (a && b) 0 (suc (find rs o l))) [])
+    go true true p q z ih = (eqb→eq (opOf r) o (subst T (sym p) tt), eqb→eq (lenOf r) l (subst T (sym q) tt))
+    go true false p q z ih = ih (omega arith)
+    go false b p q z ih = ih (omega arith)
 
 -- the search finds the row itself
 pub row-found : (k : ℕ) → k < kinds → find rows (opOf (getD rows k [])) (lenOf (getD rows k [])) ≡ k

@@ -2,3 +2,4 @@ pub mod Number
 pub mod Codes
 pub mod Table
 pub mod Laid
+pub mod Narrowed

@@ -2,8 +2,9 @@
 -- Document 01: "Kind, opcode/length, fields in the Rust's argument order. [..] The table of 39 rows is one constant."
 -- Assumes nothing.
 use Prim.Native.Nat.{ℕ, _-_, min}
-use mathlib.Core.Bool.{Bool, true, false}
+use mathlib.Core.Bool.{Bool, true, false, _&&_}
 use mathlib.Core.List.{List, [], _∷_, _++_}
+use lib.Dec.{leb, ltb}
 use lib.ListN.{getD, take, drop, replicate, length}
 use Rattle.frame.specs.Layout.{puts}
 use Rattle.table.specs.Number.{bits, bit, wide, byte, lowFirst, upTo, among, narrowed, plainsOf}
@@ -12,6 +13,10 @@ use Rattle.table.specs.Codes.{sfs, preambles, crcs, cadExits, rxBws}
 -- how many kinds there are: they are numbered from 1, in the order of the rows
 abbrev pub kinds : ℕ
 kinds = 39
+
+-- whether k is a kind: one of 1 to the last
+abbrev pub isKind : ℕ → Bool
+isKind k = ltb 0 k && leb k kinds
 
 -- how many of them are settings: their slots are the numbers below
 abbrev pub settings : ℕ

@@ -20,12 +20,12 @@ fn refused(why: Refusal) -> Answer {
 
 // Refusal, place, kind, count, four zeros, the nine arguments.
 pub fn decoded(frame: &[u8]) -> Answer {
-    let d = codec::decode(frame);
+    let d = decoder::decode(frame);
     let said = d.answer;
     let v = d.args;
     match said {
-        codec::Answer::Refused(why) => refused(why),
-        codec::Answer::Kind(kind) => Answer::new()
+        decoder::Answer::Refused(why) => refused(why),
+        decoder::Answer::Kind(kind) => Answer::new()
             .half(0)
             .byte(low8(kind))
             .byte(small(d.count))
@@ -72,11 +72,11 @@ pub fn built(count: usize, p: &[u8]) -> Answer {
     if 12 < count {
         return Answer::new();
     }
-    let b = codec::checked(arg(p, 0), &args[0..count]);
+    let b = builder::checked(arg(p, 0), &args[0..count]);
     let said = b.verdict;
     let f = b.bytes;
     match said {
-        codec::Verdict::Refused(why) => refused(why),
-        codec::Verdict::Frame(len) => framed(len, f),
+        builder::Verdict::Refused(why) => refused(why),
+        builder::Verdict::Frame(len) => framed(len, f),
     }
 }

@@ -5,7 +5,7 @@ use Prim.Native.Nat.{ℕ, _-_}
 use native.Mathlib.Omega.{arith}
 use borrow.Author.Needs.{needs}
 use lib.ListN.{take, length-take}
-use Rattle.codec.specs.Decoding.{reading}
+use Rattle.decoder.specs.Decoding.{reading}
 use Rattle.codec.proofs.Handed.{decoded-reading, decoded-refuses}
 use Rattle.dump_text.specs.Text.{lineOf}
 use Rattle.dump_text.proofs.Writing.{puts-as}

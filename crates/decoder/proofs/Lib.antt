@@ -1,0 +1,7 @@
+pub mod Words
+pub mod Stray
+pub mod Fields
+pub mod Clean
+pub mod Seeking
+pub mod Returns
+pub mod Outcome

@@ -1,0 +1,54 @@
+-- A frame held in two words of eight bytes, as the decoder reads it, and the masks of a row in the same two words. Only contracts
+-- of private functions cite these: what a frame says is in Decoding.antt. Assumes nothing.
+use Prim.Native.Nat.{ℕ, zero, suc, _+_, _-_, _*_, _/_, _%_, _^_}
+use mathlib.Core.Path.{_≡_}
+use mathlib.Core.Bool.{Bool, true, cond, _&&_}
+use mathlib.Core.List.{List, [], _∷_}
+use lib.Bits.{bitAnd}
+use lib.Dec.{eqb, leb, ltb}
+use lib.ListN.{length, getD}
+use Rattle.frame.specs.Field.{read}
+use Rattle.frame.specs.Layout.{bytes, maskOf}
+use Rattle.table.specs.Number.{narrowOf, codesOf}
+use Rattle.table.specs.Codes.{takes}
+use Rattle.table.specs.Table.{lenOf}
+use Rattle.table.specs.Narrowed.{fieldsOf}
+
+-- the number of the first n bytes, high byte first
+unfoldable pub bigEnd : (ℕ → ℕ) → ℕ → ℕ
+bigEnd b zero = 0
+bigEnd b (suc n) = bigEnd b n * 256 + b n
+
+-- the bytes from a on
+abbrev pub from : ℕ → (ℕ → ℕ) → ℕ → ℕ
+from a b i = b (a + i)
+
+-- the first eight of n bytes, where there are more than eight
+unfoldable pub firstWord : ℕ → (ℕ → ℕ) → ℕ
+firstWord n b = cond (ltb 8 n) (bigEnd b 8) 0
+
+-- the last eight of n bytes, or all of them
+unfoldable pub lastWord : ℕ → (ℕ → ℕ) → ℕ
+lastWord n b = cond (leb 8 n) (bigEnd (from (n - 8) b) 8) (bigEnd b n)
+
+-- the bits that the row's fields hold, in two words
+unfoldable pub heldOf : List ℕ → List ℕ
+heldOf r = firstWord (lenOf r) (maskOf (fieldsOf r)) ∷ lastWord (lenOf r) (maskOf (fieldsOf r)) ∷ []
+
+-- byte i of n, of two such words
+unfoldable pub heldByte : List ℕ → ℕ → ℕ → ℕ
+heldByte held n i = cond (ltb (i + 8) n) (getD held 0 0 / 2 ^ (8 * (7 - i)) % 256) (getD held 1 0 / 2 ^ (8 * (n - 1 - i)) % 256)
+
+-- whether each word lies under its mask
+unfoldable pub cleanWords : List ℕ → ℕ → ℕ → Bool
+cleanWords held first last = eqb (bitAnd first (getD held 0 0)) first && eqb (bitAnd last (getD held 1 0)) last
+
+-- the two words of a frame
+pub record InWords (first last : ℕ) (f : List ℕ) : Type 0 where
+  pub first-is : first ≡ firstWord (length f) (bytes f)
+  pub last-is : last ≡ lastWord (length f) (bytes f)
+
+-- whether each of these fields holds a code that it takes
+unfoldable pub allTaken : List ℕ → (ℕ → ℕ) → Bool
+allTaken [] b = true
+allTaken (c ∷ cs) b = takes (codesOf c) (read (narrowOf c) b) && allTaken cs b
