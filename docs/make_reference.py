@@ -6,7 +6,6 @@ A made part stands between `from commands.json: NAME` and `end: NAME`. tests/ref
 import json
 import os
 import re
-import sys
 import textwrap
 
 ROOT = os.path.dirname(os.path.dirname(os.path.abspath(__file__)))
@@ -361,4 +360,4 @@ def main():
 
 
 if __name__ == "__main__":
-    sys.exit(main())
+    main()
