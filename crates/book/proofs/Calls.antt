@@ -10,12 +10,15 @@ use lib.ListN.{drop, length, length-replicate, replicate, replicate-append-repli
 use lib.Seq.{drop-length, paste, take-all}
 use Rattle.refusal.specs.declared.Refusal.{Refusal}
 use Rattle.refusal.specs.declared.Refusal.the-variants.{BufferSize}
+use Rattle.contents.specs.declared.Verdict.the-variants as checked
 use Rattle.book.specs.declared.Answer.{Answer}
 use Rattle.book.specs.declared.Answer.the-variants.{Done, Refused}
-use Rattle.book.specs.Plain.{Turn, become, clearOn, flat}
-use Rattle.book.specs.Book.{Contents, Layout, call, header, holds, image, judge, longest, made, opened, place, refused, roomOf, start, verdict, words}
+use Rattle.contents.specs.Frames.{flat, place}
+use Rattle.contents.specs.Contents.{Contents, Layout, header, holds, image, judge, longest, refused, roomOf, start, verdictOf, words}
+use Rattle.contents.proofs.Judged.{Bytes, Reads, judge-image, judge-reads}
+use Rattle.book.specs.Plain.{Turn, become, clearOn}
+use Rattle.book.specs.Book.{call, made, opened, verdict}
 use Rattle.book.specs.Edits.{setWord}
-use Rattle.book.proofs.Judged.{Bytes, Reads, judge-image, judge-reads}
 
 -- an answer is not both
 pub done-refused : (n : ℕ) (x : Refusal) → Done n ≡ Refused x → ⊥
@@ -34,6 +37,24 @@ opened-holds l b n h = go (judge l b) refl h
     go : (r : Contents) → judge l b ≡ r → Done n ≡ verdict r → Holds l b
     go (refused x) e z = absurd (done-refused n x z)
     go (holds fs) e z = record { frames = fs; reads = e; opens = e }
+
+-- what the check of a buffer says is what a call finds
+module _ (l : Layout) (b : List ℕ) where
+  pub ready-sound : checked.WellFormed ≡ verdictOf (judge l b) → Done 0 ≡ verdict (opened l b)
+  unfolding opened
+  ready-sound e = go (judge l b) e
+    where
+      go : (r : Contents) → checked.WellFormed ≡ verdictOf r → Done 0 ≡ verdict r
+      go (refused y) z = let w : _≡_ {A = ℕ} 0 1 = cc in absurd (omega arith)
+      go (holds fs) z = refl
+
+  pub ready-refused : (x : Refusal) → checked.Refused x ≡ verdictOf (judge l b) → Refused x ≡ verdict (opened l b)
+  unfolding opened
+  ready-refused x e = go (judge l b) e
+    where
+      go : (r : Contents) → checked.Refused x ≡ verdictOf r → Refused x ≡ verdict r
+      go (refused y) z = let w : x ≡ y = cc in ap (λ (y : Refusal). Refused y) w
+      go (holds fs) z = let w : _≡_ {A = ℕ} 0 1 = cc in absurd (omega arith)
 
 -- what opens reads as those frames
 pub opened-judge : (l : Layout) (b : List ℕ) (fs : List (List ℕ)) → opened l b ≡ holds fs → judge l b ≡ holds fs

@@ -1,5 +1,5 @@
--- Document 01's example of the book, and what its rules say of some calls near it: one list of runs with their answers, and one claim.
--- "book of 62 bytes, put 02 23 34: 8; of 65: accepted, byte 1 = 1, bytes 2-3 = 00 41, bytes 10-11 = 00 3E"
+-- A frame of three bytes put into a made book: of 62 bytes, which refuses it for room, and of 65, which takes it, with the bytes that it then
+-- has (REFERENCE, "Book"): one list of runs with their answers, and one claim.
 -- Assumes nothing.
 use mathlib.Core.Path.{refl, _≡_}
 use mathlib.Core.List.{List, [], _++_, _∷_}
@@ -14,9 +14,11 @@ use Rattle.refusal.specs.Numbers.{numberOf}
 use Rattle.decoder.specs.Decoding.{decode, judged, known, lacking, stray}
 use Rattle.book.specs.declared.Answer.{Answer}
 use Rattle.book.specs.declared.Answer.the-variants.{Done, Refused}
-use Rattle.book.specs.Settings.{slotFor, slotOf}
-use Rattle.book.specs.Plain.{flat, held, placed, putOn, seat}
-use Rattle.book.specs.Book.{Outcome, allZero, call, framesFrom, header, image, judge, made, offsetAt, opened, ours, place, presentFrom, wordAt, words}
+use Rattle.settings.specs.Settings.{slotFor, slotOf}
+use Rattle.contents.specs.Frames.{flat, held, place}
+use Rattle.contents.specs.Contents.{allZero, framesFrom, header, image, judge, offsetAt, presentFrom, wordAt, words}
+use Rattle.book.specs.Plain.{placed, putOn, seat}
+use Rattle.book.specs.Book.{Outcome, call, made, opened, ours}
 use Rattle.book.specs.History.{Put, after}
 
 -- syncword 0x34

@@ -8,13 +8,14 @@ use native.Mathlib.Omega.{arith}
 use borrow.Author.Tests.{le-leb}
 use lib.ListN.{length}
 use Rattle.book.specs.declared.Answer.the-variants.{Done}
-use Rattle.book.specs.Settings.{settings}
+use Rattle.table.specs.Table.{settings}
+use Rattle.contents.specs.Contents.{Layout, holds, image, longest, roomOf, start}
+use Rattle.contents.proofs.Written.{image-judge, image-length}
 use Rattle.book.specs.Plain.{Turn, askOn, become, clearOn, putOn, removeOn, replayOn}
-use Rattle.book.specs.Book.{Layout, Outcome, call, holds, image, longest, made, opened, ours, roomOf, start}
+use Rattle.book.specs.Book.{Outcome, call, made, opened, ours}
 use Rattle.book.specs.History.{Ask, Call, Clear, Make, Put, Remove, Replay, after, onBytes, onList, turn}
 use Rattle.book.proofs.Calls.{make-fits}
 use Rattle.book.proofs.Kept.{Kept, empty-kept, turn-kept}
-use Rattle.book.proofs.Written.{image-judge, image-length}
 
 -- ---- runs, whatever the calls are
 

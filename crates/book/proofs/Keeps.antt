@@ -12,12 +12,15 @@ use Rattle.refusal.specs.declared.Refusal.the-variants.{BufferSize, NoRoom, Not
 use Rattle.decoder.specs.Decoding.{decode}
 use Rattle.reel.specs.Reel.{reelOf}
 use Rattle.book.specs.declared.Answer.the-variants.{Done, Refused}
-use Rattle.book.specs.Settings.{lacks, settings, slotFor, slotOf}
-use Rattle.book.specs.Plain.{Turn, askOn, become, clearOn, flat, frameOf, held, placed, putOn, refuse, removeOn, replayOn, tell, without}
-use Rattle.book.specs.Book.{Contents, Layout, Outcome, call, holds, image, longest, made, onContents, opened, refused, roomOf, start}
+use Rattle.table.specs.Table.{settings}
+use Rattle.settings.specs.Settings.{lacks, slotFor, slotOf}
+use Rattle.contents.specs.Frames.{flat, held}
+use Rattle.contents.specs.Contents.{Contents, Layout, holds, image, longest, refused, roomOf, start}
+use Rattle.contents.proofs.Judged.{Bytes}
+use Rattle.book.specs.Plain.{Turn, askOn, become, clearOn, frameOf, placed, putOn, refuse, removeOn, replayOn, tell, without}
+use Rattle.book.specs.Book.{Outcome, call, made, onContents, opened}
 use Rattle.book.specs.History.{Ask, Call, Clear, Make, Put, Remove, Replay, after}
 use Rattle.book.proofs.Calls.{done-refused, opened-bytes}
-use Rattle.book.proofs.Judged.{Bytes}
 
 -- the output that a call is lent
 abbrev pub lentTo : Call → List ℕ

@@ -14,13 +14,16 @@ use Rattle.refusal.specs.declared.Refusal.the-variants.{NoRoom, NotAKind, NotHe
 use Rattle.decoder.specs.Decoding.{decode}
 use Rattle.reel.specs.Reel.{reelOf}
 use Rattle.book.specs.declared.Answer.the-variants.{Done}
-use Rattle.book.specs.Settings.{lacks, settings, slotFor, slotOf}
-use Rattle.book.specs.Plain.{Turn, askOn, become, clearOn, flat, frameOf, held, placed, putOn, refuse, removeOn, replayOn, seat, swapIn, tell, without}
-use Rattle.book.specs.Book.{Layout, holds, opened, roomOf, start, wordAt}
+use Rattle.table.specs.Table.{settings}
+use Rattle.settings.specs.Settings.{lacks, slotFor, slotOf}
+use Rattle.contents.specs.Frames.{flat, held}
+use Rattle.contents.specs.Contents.{Layout, holds, roomOf, start, wordAt}
+use Rattle.contents.proofs.Shape.{Sound, Within, sound-within}
+use Rattle.contents.proofs.Judged.{framesFrom-tiled, judge-reads}
+use Rattle.book.specs.Plain.{Turn, askOn, become, clearOn, frameOf, placed, putOn, refuse, removeOn, replayOn, seat, swapIn, tell, without}
+use Rattle.book.specs.Book.{opened}
 use Rattle.book.specs.History.{Ask, Call, Clear, Make, Put, Remove, Replay, onList, turn}
-use Rattle.book.proofs.Shape.{Sound, Within, sound-within}
 use Rattle.book.proofs.Calls.{opened-judge}
-use Rattle.book.proofs.Judged.{framesFrom-tiled, judge-reads}
 
 -- a list that a book of m slots with room for n bytes of frames can hold
 pub record Kept (m n : ℕ) (fs : List (List ℕ)) : Type 0 where

@@ -1,6 +1,6 @@
--- What the plain list keeps to, in document 01's words; with the history theorem it holds of every book.
+-- What the plain list keeps to (REFERENCE, "Book"); with the history theorem it holds of every book.
 --     placed-newest, placed-others    after a put the list has that frame of its kind, and of every other what it had
---     placed-order, placed-last       "A kind already held is overwritten in its place"; one that is not goes to the end
+--     placed-order, placed-last       a kind that is held keeps its place; one that is not goes to the end
 --     without-gone, without-others    a removed kind is gone, every other stays
 --     without-order                   and in the order that they had
 --     without-room                    a removal frees the bytes of its frame
@@ -24,7 +24,15 @@ use lib.Dec.{eqb, leb, ltb}
 use lib.ListN.{drop, getD, length, length-append, take}
 use lib.Seq.{take-at}
 use Rattle.table.specs.Laid.{find}
-use Rattle.table.specs.Table.{kinds, rows}
+use Rattle.table.specs.Table.{kinds, rows, settings}
+use Rattle.settings.specs.Settings.{lacks, sizeOf, slotFor, slotIn, slotOf}
+use Rattle.settings.proofs.Settings.{slot-one, slotOf-length}
+use Rattle.contents.specs.Frames.{flat, held}
+use Rattle.contents.specs.Contents.{Layout, holds, image, judge}
+use Rattle.contents.proofs.Shape.{Sound}
+use Rattle.contents.proofs.Judged.{Bytes, judge-image}
+use Rattle.book.specs.Plain.{Turn, askOn, become, frameOf, placed, putOn, refuse, replayOn, seat, swapIn, tell, without}
+use Rattle.book.proofs.Putting.{swap-room}
 use Rattle.refusal.specs.Numbers.{numberOf}
 use Rattle.refusal.specs.declared.Refusal.{Refusal}
 use Rattle.refusal.specs.declared.Refusal.the-variants.{NoRoom, NotAKind, NotHeld, OutputShort, ShortFrame, StrayBit, UnknownCode, UnknownOpcode, WrongLength}
@@ -37,14 +45,7 @@ use Rattle.reel.specs.Reel.{reelOf, walk}
 use Rattle.reel.proofs.Walks.{walk-whole}
 use Rattle.book.specs.declared.Answer.{Answer}
 use Rattle.book.specs.declared.Answer.the-variants.{Done, Refused}
-use Rattle.book.specs.Settings.{lacks, settings, sizeOf, slotFor, slotIn, slotOf}
-use Rattle.book.specs.Plain.{Turn, askOn, become, flat, frameOf, held, placed, putOn, refuse, replayOn, seat, swapIn, tell, without}
-use Rattle.book.specs.Book.{Layout, holds, image, judge}
-use Rattle.book.proofs.Settings.{slot-one, slotOf-length}
-use Rattle.book.proofs.Shape.{Sound}
 use Rattle.book.proofs.Calls.{done-refused}
-use Rattle.book.proofs.Judged.{Bytes, judge-image}
-use Rattle.book.proofs.Putting.{swap-room}
 use Rattle.book.proofs.Telling.{reel-length}
 
 -- ---- put

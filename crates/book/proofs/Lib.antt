@@ -1,12 +1,8 @@
-pub mod Settings
-pub mod Shape
-pub mod Steps
-pub mod Pastes
-pub mod Judged
 pub mod Calls
+pub mod Known
+pub mod Parts
 pub mod Putting
 pub mod Removing
-pub mod Written
 pub mod Telling
 pub mod Kept
 pub mod History

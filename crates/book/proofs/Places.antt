@@ -1,6 +1,6 @@
 -- The place that an answer carries is at most 12, whatever the call and the bytes (`after-place`): it is the decoder's, or 0.
 -- Assumes nothing.
-use mathlib.Core.Path.{subst, _≡_}
+use mathlib.Core.Path.{refl, subst, _≡_}
 use mathlib.Core.Bool.{Bool, cond, false, true}
 use mathlib.Core.List.{List, [], _∷_, _++_}
 use Prim.Native.Nat.{suc, zero, ℕ, _+_, _≤_}
@@ -10,14 +10,18 @@ use lib.ListN.{drop, getD, length, take}
 use Rattle.refusal.specs.declared.Refusal.{Refusal}
 use Rattle.refusal.specs.declared.Refusal.the-variants.{BufferSize, NoRoom, NotAKind, NotHeld, NotWellFormed, OutputShort}
 use Rattle.refusal.specs.Numbers.{placeOf}
+use Rattle.contents.proofs.Places.{judge-place}
 use Rattle.decoder.specs.Decoding.{Reading, decode, reading, refuses}
 use Rattle.codec.proofs.Places.{decode-place, placeIn}
 use Rattle.reel.specs.Reel.{reelOf}
 use Rattle.book.specs.declared.Answer.{Answer}
 use Rattle.book.specs.declared.Answer.the-variants.{Done, Refused}
-use Rattle.book.specs.Settings.{lacks, settings, slotFor, slotOf}
-use Rattle.book.specs.Plain.{Turn, askOn, become, clearOn, flat, frameOf, held, placed, putOn, refuse, removeOn, replayOn, tell, without}
-use Rattle.book.specs.Book.{Contents, Layout, Outcome, allZero, before, call, framesFrom, given, holds, image, judge, lengthAt, longest, made, onContents, opened, presentFrom, refused, roomOf, start, wordAt}
+use Rattle.table.specs.Table.{settings}
+use Rattle.settings.specs.Settings.{lacks, slotFor, slotOf}
+use Rattle.contents.specs.Frames.{flat, held}
+use Rattle.contents.specs.Contents.{Contents, Layout, allZero, before, framesFrom, given, holds, image, judge, lengthAt, longest, presentFrom, refused, roomOf, start, wordAt}
+use Rattle.book.specs.Plain.{Turn, askOn, become, clearOn, frameOf, placed, putOn, refuse, removeOn, replayOn, tell, without}
+use Rattle.book.specs.Book.{Outcome, call, made, onContents, opened}
 use Rattle.book.specs.History.{Ask, Call, Clear, Make, Put, Remove, Replay, after}
 
 -- the place that an answer carries
@@ -31,32 +35,13 @@ abbrev Near : Contents → Type 0
 Near (refused x) = placeOf x ≤ 12
 Near (holds fs) = 0 ≤ 12
 
-given-near : (t : Bool) (x : Refusal) (c : Contents) → placeOf x ≤ 12 → Near c → Near (given t x c)
-given-near true x c h n = n
-given-near false x c h n = h
-
-frames-near : (m c : ℕ) (b : List ℕ) (p e : ℕ) → Near (framesFrom m c b p e)
-unfolding framesFrom
-frames-near m zero b p e = given-near (eqb p e) NotWellFormed (holds []) (omega arith) (omega arith)
-frames-near m (suc c) b p e =
-    by (eqb (lengthAt m b p e) 0) (framesFrom m c b (p + lengthAt m b p e) e) (frames-near m c b (p + lengthAt m b p e) e)
-  where
-    by : (t : Bool) (r : Contents) → Near r → Near (cond t (refused NotWellFormed) (before (take (lengthAt m b p e) (drop p b)) r))
-    by true r n = omega arith
-    by false (refused x) n = n
-    by false (holds fs) n = omega arith
-
 opened-near : (l : Layout) (b : List ℕ) → Near (opened l b)
-unfolding opened judge
-opened-near l b =
-    given-near (leb (start (l .slots)) (length b)) BufferSize _ (omega arith)
-    (given-near (leb (length b) longest) BufferSize _ (omega arith)
-    (given-near (eqb (getD b 0 0) (l .version)) NotWellFormed _ (omega arith)
-    (given-near (leb (start (l .slots)) (wordAt b 2)) NotWellFormed _ (omega arith)
-    (given-near (leb (wordAt b 2) (length b)) NotWellFormed _ (omega arith)
-    (given-near (eqb (presentFrom (l .slots) b 0) (getD b 1 0)) NotWellFormed _ (omega arith)
-    (given-near (allZero (drop (wordAt b 2) b)) NotWellFormed _ (omega arith)
-    (frames-near (l .slots) (getD b 1 0) b (start (l .slots)) (wordAt b 2))))))))
+unfolding opened
+opened-near l b = by (judge l b) refl
+  where
+    by : (c : Contents) → judge l b ≡ c → Near c
+    by (refused x) e = omega (arith, judge-place l b x e)
+    by (holds fs) e = omega arith
 
 -- ---- the steps
 

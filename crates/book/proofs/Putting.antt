@@ -1,5 +1,5 @@
 -- A put as edits of a book's bytes: a paste in place (`over-image`) or the frame behind the others (`app-image`) gives the image of the list
--- after the put. What is known of a sound book's bytes (`is-held`, `end-is`, `count-is` and the like), and what `put` returns (`put-..`).
+-- after the put; and what `put` returns (`put-..`).
 -- Assumes nothing.
 use mathlib.Core.Path.{ap, ap₂, refl, subst, sym, _∙_, _≡_}
 use mathlib.Core.Bool.{Bool, cond, false, false≢true, not, true}
@@ -12,66 +12,25 @@ use lib.Dec.{eqb}
 use lib.ListN.{drop, getD, length, length-append, length-set, replicate, set, take}
 use lib.Seq.{drop-append-add, drop-append-le, drop-append-seam, length-paste, paste, set-append-left, take-append-add, take-append-le, take-length}
 use Rattle.refusal.specs.declared.Refusal.{Refusal}
+use Rattle.spans.specs.Spans.{written}
+use Rattle.spans.proofs.Spans.{written-fits}
 use Rattle.refusal.specs.declared.Refusal.the-variants.{NoRoom}
 use Rattle.decoder.specs.Decoding.{decode}
 use Rattle.book.specs.declared.Answer.{Answer}
 use Rattle.book.specs.declared.Answer.the-variants.{Done, Refused}
-use Rattle.book.specs.Settings.{lacks, settings, sizeOf, slotOf}
-use Rattle.book.specs.Plain.{Turn, become, flat, held, placed, putOn, refuse, seat, swapIn}
-use Rattle.book.specs.Book.{Layout, header, image, offsetAt, place, roomOf, start, wordAt, words}
+use Rattle.table.specs.Table.{settings}
+use Rattle.settings.specs.Settings.{lacks, sizeOf, slotOf}
+use Rattle.settings.proofs.Settings.{slotOf-length}
+use Rattle.contents.specs.Frames.{flat, held, place}
+use Rattle.contents.specs.Contents.{Layout, header, image, offsetAt, roomOf, start, wordAt, words}
+use Rattle.contents.proofs.Shape.{Sound, count-most, place-from, place-ge, place-in, place-none, place-shift, present-count}
+use Rattle.contents.proofs.Judged.{Bytes, Tiled, framesFrom-tiled, judge-image, offsets}
+use Rattle.contents.proofs.Headers.{header-length, words-cong}
+use Rattle.book.specs.Plain.{Turn, become, placed, putOn, refuse, seat, swapIn}
 use Rattle.book.specs.Edits.{appended, setWord}
-use Rattle.book.proofs.Settings.{slotOf-length}
-use Rattle.book.proofs.Shape.{Sound, count-most, place-from, place-ge, place-in, place-none, place-shift, present-count}
+use Rattle.book.proofs.Known.{count-is, end-is, held-within, is-held, is-image, not-held, stay, tiling}
+use Rattle.book.proofs.Parts.{drop-replicate, length-setWord, paste-left, paste-right, setWord-left, setWord-skip, words-set}
 use Rattle.book.proofs.Calls.{Gives, Holds, accept, holds-reads}
-use Rattle.book.proofs.Judged.{Bytes, Tiled, framesFrom-tiled, judge-image, offsets, words-cong}
-
--- ---- edits of a list in parts
-
-pub paste-right : (x d : List ℕ) (o : ℕ) (s : List ℕ) (n : ℕ) → paste (x ++ d) (length x + o) s n ≡ x ++ paste d o s n
-paste-right x d o s n =
-    ap₂ (λ (u v : List ℕ). u ++ take n s ++ v) (take-append-add x d o)
-    (ap (λ (i : ℕ). drop i (x ++ d)) (e (length x) o n) ∙ drop-append-add x d (o + n))
-    ∙ ap (λ (u : List ℕ). u ++ drop (o + n) d) (append-assoc x (take o d) (take n s))
-    ∙ append-assoc x (take o d ++ take n s) (drop (o + n) d)
-  where
-    e : (a b c : ℕ) → a + b + c ≡ a + (b + c)
-    e a b c = omega arith
-
-pub paste-left : (d y : List ℕ) (o : ℕ) (s : List ℕ) (n : ℕ) → o + n ≤ length d → paste (d ++ y) o s n ≡ paste d o s n ++ y
-paste-left d y o s n h =
-    ap₂ (λ (u v : List ℕ). u ++ take n s ++ v) (take-append-le o d y (omega arith)) (drop-append-le (o + n) d y h)
-    ∙ sym (append-assoc (take o d ++ take n s) (drop (o + n) d) y)
-
-pub setWord-left : (x y : List ℕ) (i v : ℕ) → i + 1 < length x → setWord (x ++ y) i v ≡ setWord x i v ++ y
-unfolding setWord
-setWord-left x y i v h =
-    ap (λ (l : List ℕ). set l (i + 1) (v % 256)) (set-append-left x y i (v / 256) (omega arith))
-    ∙ set-append-left (set x i (v / 256)) y (i + 1) (v % 256) (simp length-set (omega arith))
-
-pub length-setWord : (l : List ℕ) (i v : ℕ) → length (setWord l i v) ≡ length l
-unfolding setWord
-length-setWord l i v = simp length-set
-
-pub setWord-skip : (a b : ℕ) (l : List ℕ) (i v : ℕ) → setWord (a ∷ b ∷ l) (suc (suc i)) v ≡ a ∷ b ∷ setWord l i v
-unfolding setWord
-setWord-skip a b l i v = ap (λ (n : ℕ). set (a ∷ b ∷ set l i (v / 256)) n (v % 256)) (e i)
-  where
-    e : (i : ℕ) → suc (suc i) + 1 ≡ suc (suc (i + 1))
-    e i = omega arith
-
-pub drop-replicate : (m k : ℕ) → drop {A = ℕ} k (replicate m 0) ≡ replicate (m - k) 0
-drop-replicate m zero = ap (λ (x : ℕ). replicate x 0) (e m)
-  where
-    e : (m : ℕ) → m ≡ m - zero
-    e m = omega arith
-drop-replicate zero (suc k) = ap (λ (x : ℕ). replicate x 0) (e k)
-  where
-    e : (k : ℕ) → zero ≡ zero - suc k
-    e k = omega arith
-drop-replicate (suc m) (suc k) = drop-replicate m k ∙ ap (λ (x : ℕ). replicate x 0) (e m k)
-  where
-    e : (m k : ℕ) → m - k ≡ suc m - suc k
-    e m k = omega arith
 
 -- ---- in place
 
@@ -117,18 +76,9 @@ module _ (k : ℕ) (f : List ℕ) (own : slotOf f ≡ k) (len : length f ≡ siz
           c : length g + place 0 fs k ≡ place 0 fs k + length g
           c = omega arith
 
-pub words-length : (m k : ℕ) (g : ℕ → ℕ) → length (words m k g) ≡ 2 * m
-unfolding words
-words-length zero k g = refl
-words-length (suc m) k g = omega (arith, words-length m (k + 1) g)
-
 pub swap-room : (k : ℕ) (f : List ℕ) (fs : List (List ℕ)) → slotOf f ≡ k → length f ≡ sizeOf k → Sound fs → held k fs ≡ true → length (flat (swapIn k f fs)) ≡ length (flat fs)
 swap-room k f fs own len s h =
     ap length (swap-flat k f own len fs s h) ∙ length-paste (flat fs) (place 0 fs k) f (length f) (omega (arith, place-in 0 fs k s h)) (le-refl (length f))
-
-pub header-length : (l : Layout) (fs : List (List ℕ)) → length (header l fs) ≡ start (l .slots)
-unfolding header
-header-length l fs = omega (arith, words-length (l .slots) 0 (place (start (l .slots)) fs))
 
 header-swap : (l : Layout) (k : ℕ) (f : List ℕ) → slotOf f ≡ k → length f ≡ sizeOf k → (fs : List (List ℕ)) → Sound fs → length (flat (swapIn k f fs)) ≡ length (flat fs) → header l (swapIn k f fs) ≡ header l fs
 unfolding header
@@ -186,27 +136,6 @@ pub place-other : (p : ℕ) (fs : List (List ℕ)) (f : List ℕ) (j : ℕ) → 
 unfolding place
 place-other p [] f j n = ap (λ (t : Bool). cond t p 0) (ne-eqb (slotOf f) j n)
 place-other p (g ∷ fs) f j n = ap (λ (x : ℕ). cond (eqb (slotOf g) j) p x) (place-other (p + length g) fs f j n)
-
--- a store of one slot's offset
-pub words-set : (l j : ℕ) (g h : ℕ → ℕ) (k v : ℕ) → k < l → h (j + k) ≡ v → ((x : ℕ) → (j + k ≡ x → ⊥) → g x ≡ h x) → setWord (words l j g) (2 * k) v ≡ words l j h
-unfolding words setWord
-words-set zero j g h k v a e n = absurd (omega arith)
-words-set (suc l) j g h zero v a e n =
-    ap₂ (λ (x : ℕ) (r : List ℕ). x / 256 ∷ x % 256 ∷ r) (sym e ∙ ap h (z j)) (words-cong l (j + 1) g h (λ x p q. n x (λ w. absurd (omega arith))))
-  where
-    z : (j : ℕ) → j + zero ≡ j
-    z j = omega arith
-words-set (suc l) j g h (suc k) v a e n =
-    ap (λ (i : ℕ). setWord (words (suc l) j g) i v) (two k)
-    ∙ setWord-skip (g j / 256) (g j % 256) (words l (j + 1) g) (2 * k) v
-    ∙ ap₂ (λ (x : ℕ) (r : List ℕ). x / 256 ∷ x % 256 ∷ r) (n j (λ w. absurd (omega arith)))
-    (words-set l (j + 1) g h k v (omega arith) (ap h (sh j k) ∙ e) (λ x w. n x (λ u. w (sh j k ∙ u))))
-  where
-    two : (k : ℕ) → 2 * suc k ≡ suc (suc (2 * k))
-    two k = omega arith
-
-    sh : (j k : ℕ) → j + 1 + k ≡ j + suc k
-    sh j k = omega arith
 
 length-one : (fs : List (List ℕ)) (f : List ℕ) → length (fs ++ (f ∷ [])) ≡ length fs + 1
 length-one fs f = length-append fs (f ∷ [])
@@ -305,46 +234,6 @@ module _ (f o : List ℕ) (n : ℕ) (fs : List (List ℕ)) where
     unfolding putOn placed seat
     putOn-full h r = rw (lt-ltb _ _ a, h, lt-leb _ _ r)
 
-module _ (l : Layout) (b : List ℕ) (B : Bytes b) (h : Holds l b) where
-  pub tiling : Tiled (l .slots) b (start (l .slots)) (wordAt b 2) (getD b 1 0) (h .frames)
-  tiling = framesFrom-tiled (l .slots) (getD b 1 0) b (start (l .slots)) (wordAt b 2) (h .frames) (holds-reads l b h .tiled)
-
-  pub is-image : b ≡ image l (length b) (h .frames)
-  is-image = judge-image l b (h .frames) B (h .reads)
-
-  -- a slot's offset is 0 exactly where it is not held
-  pub is-held : (k at : ℕ) → k < l .slots → at ≡ offsetAt b k → (at ≡ 0 → ⊥) → held k (h .frames) ≡ true
-  is-held k at a o n = go (held k (h .frames)) refl
-    where
-      go : (x : Bool) → held k (h .frames) ≡ x → held k (h .frames) ≡ true
-      go true q = q
-      go false q = absurd (n (o ∙ offsets l b (h .frames) (holds-reads l b h) k a ∙ place-none (start (l .slots)) (h .frames) k q))
-
-  pub not-held : (k at : ℕ) → k < l .slots → at ≡ offsetAt b k → at ≡ 0 → held k (h .frames) ≡ false
-  not-held k at a o n = go (held k (h .frames)) refl
-    where
-      go : (x : Bool) → held k (h .frames) ≡ x → held k (h .frames) ≡ false
-      go false q = q
-      go true q = absurd (omega (arith, offsets l b (h .frames) (holds-reads l b h) k a, place-ge (start (l .slots)) (h .frames) k q))
-
-  pub end-is : wordAt b 2 ≡ start (l .slots) + length (flat (h .frames))
-  end-is = sym (tiling .ends)
-
-  pub count-is : getD b 1 0 ≡ length (h .frames)
-  count-is = sym (tiling .many)
-
-  pub count-few : getD b 1 0 ≤ l .slots
-  count-few = omega (arith, holds-reads l b h .count, present-count (l .slots) 0 b, count-most (l .slots) 0 (λ j. not (eqb (offsetAt b j) 0)))
-
-  -- what is held ends within the frames
-  pub held-within : (k at : ℕ) → k < l .slots → at ≡ offsetAt b k → (at ≡ 0 → ⊥) → at + (sizeOf k) ≤ wordAt b 2
-  held-within k at a o n = omega (arith, offsets l b (h .frames) (holds-reads l b h) k a, place-in (start (l .slots)) (h .frames) k (tiling .sound) (is-held k at a o n), tiling .ends)
-
--- a step that leaves the list leaves the bytes
-pub stay : (l : Layout) (b : List ℕ) (B : Bytes b) (h : Holds l b) (s : List ℕ → ℕ → List (List ℕ) → Turn) (o : List ℕ) (a : Answer) (x : List ℕ)
-    → s o (roomOf l (length b)) (h .frames) ≡ record { answer = a; output = x; frames = h .frames } → Gives l s o b a x b
-stay l b B h s o a x e = accept l s o b h (record { answer = a; output = x; frames = h .frames }) b e (is-image l b B h)
-
 module _ (l : Layout) (b : List ℕ) (B : Bytes b) (h : Holds l b) (f : List ℕ) (k : ℕ) (own : k ≡ slotOf f) where
   pub put-bad : settings ≤ k → (x : Refusal) → lacks (decode f) ≡ x → Gives l (putOn f) [] b (Refused x) [] b
   put-bad a x e =
@@ -358,11 +247,12 @@ module _ (l : Layout) (b : List ℕ) (B : Bytes b) (h : Holds l b) (f : List ℕ
     pub put-room : (at ≡ 0 → ⊥) → at + length f ≤ length b
     put-room n = omega (arith, frame-len, held-within l b B h k at am o n, holds-reads l b h .high)
 
-    pub put-over : (y : List ℕ) → (at ≡ 0 → ⊥) → y ≡ paste b at f (length f) → Gives l (putOn f) [] b (Done 0) [] y
+    pub put-over : (y : List ℕ) → (at ≡ 0 → ⊥) → y ≡ written b at f → Gives l (putOn f) [] b (Done 0) [] y
     put-over y n e =
         accept l (putOn f) [] b h (become [] (swapIn (slotOf f) f (h .frames))) y
         (putOn-over f [] (roomOf l (length b)) (h .frames) (omega arith) hf (omega (arith, swap-room (slotOf f) f (h .frames) refl (slotOf-length f (omega arith)) (tiling l b B h .sound) hf, end-is l b B h, holds-reads l b h .high)))
         (e
+        ∙ written-fits b at f (put-room n)
         ∙ ap₂ (λ (x : List ℕ) (i : ℕ). paste x i f (length f)) (is-image l b B h) (o ∙ offsets l b (h .frames) (holds-reads l b h) k am)
         ∙ over-image l (length b) k f (h .frames) (sym own) frame-len (tiling l b B h .sound) hk
         ∙ ap (λ (i : ℕ). image l (length b) (swapIn i f (h .frames))) own)

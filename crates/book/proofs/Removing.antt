@@ -1,151 +1,70 @@
--- A removal as edits of a book's bytes: what `take_out` makes of the image is the image of the list without the frame (`taken-image`);
--- and what `remove` returns (`remove-..`).
+-- A removal as edits of a book's bytes. A refit makes room for new bytes where a frame stood (`refit-image`); a removal is the refit with no
+-- bytes there, and one frame less, which gives the image of the list without the frame (`taken-image`). And what `remove` returns
+-- (`remove-..`).
 -- Assumes nothing.
 use mathlib.Core.Path.{ap, ap₂, refl, subst, sym, _∙_, _≡_}
 use mathlib.Core.Bool.{Bool, cond, false, false≢true, true}
-use mathlib.Core.List.{List, [], append-assoc, append-nil, _++_, _∷_}
-use Prim.Native.Nat.{suc, zero, ℕ, _%_, _*_, _+_, _-_, _/_, _<_, _≤_}
+use mathlib.Core.List.{List, [], append-assoc, _++_, _∷_}
+use Prim.Native.Nat.{suc, zero, ℕ, _+_, _-_, _<_, _≤_}
 use native.Mathlib.Nat.{le-refl}
 use native.Mathlib.Omega.{arith}
-use borrow.Author.Tests.{eq-eqb, eqb-false, eqb-true, le-ltb, lt-ltb, ne-eqb}
+use borrow.Author.Tests.{eq-eqb, eqb-true, le-ltb, lt-ltb, ne-eqb}
 use lib.Dec.{eqb}
-use lib.ListN.{drop, drop-of-length-le, getD, length, length-append, length-drop, length-replicate, replicate, replicate-append-replicate, set, take}
-use lib.Seq.{drop-append-add, drop-append-le, drop-append-seam, length-take-le, paste, take-all, take-append-add, take-at}
+use lib.ListN.{drop, getD, length, length-append, length-drop, length-replicate, replicate, replicate-append-replicate, set, take, take-append-drop}
+use lib.Seq.{drop-append-add, drop-append-le, drop-append-seam, drop-drop, length-paste, length-take-le, paste, take-append-add, take-at}
 use Rattle.refusal.specs.declared.Refusal.the-variants.{NotAKind, NotHeld}
+use Rattle.table.specs.Table.{settings}
+use Rattle.settings.specs.Settings.{sizeOf, slotFor, slotOf}
+use Rattle.settings.proofs.Settings.{size-low, slotOf-length}
+use Rattle.contents.specs.Frames.{flat, held, place}
+use Rattle.contents.specs.Contents.{Layout, header, image, offsetAt, roomOf, start, wordAt}
+use Rattle.contents.proofs.Headers.{head, head-length, header-head}
+use Rattle.contents.proofs.Shape.{Sound, place-from, place-ge, place-in, place-none, place-shift}
+use Rattle.contents.proofs.Judged.{Bytes, offsets}
+use Rattle.book.specs.Plain.{become, refuse, removeOn, without}
+use Rattle.spans.specs.Spans.{slid, zeroed}
+use Rattle.spans.proofs.Spans.{slid-fits, zeroed-fits}
 use Rattle.book.specs.declared.Answer.the-variants.{Done, Refused}
-use Rattle.book.specs.Settings.{settings, sizeOf, slotFor, slotOf}
-use Rattle.book.specs.Plain.{become, flat, held, refuse, removeOn, without}
-use Rattle.book.specs.Book.{Layout, header, image, offsetAt, place, roomOf, start, wordAt, words}
-use Rattle.book.specs.Edits.{closedAt, remap, setWord, takenOut}
-use Rattle.book.proofs.Settings.{size-low, slotOf-length}
-use Rattle.book.proofs.Shape.{Sound, place-from, place-ge, place-in, place-none, place-shift}
+use Rattle.book.specs.Edits.{moved, refitted, remap, setWord, shiftedAt, takenOut}
 use Rattle.book.proofs.Calls.{Gives, Holds, accept, holds-reads}
-use Rattle.book.proofs.Judged.{Bytes, offsets, words-cong}
-use Rattle.book.proofs.Putting.{count-is, end-is, header-length, is-held, is-image, not-held, paste-left, paste-right, setWord-left, setWord-skip, stay, tiling, words-length, words-set}
-use Rattle.book.proofs.Steps.{minus-end, minus-step}
+use Rattle.book.proofs.Known.{count-is, end-is, is-held, is-image, not-held, stay, tiling}
+use Rattle.book.proofs.Parts.{drop-replicate, head-count, head-end, head-remap, head-same, paste-at, paste-right}
 
--- ---- closedAt
+-- ---- a move down
 
-module _ (at len o : ℕ) where
-  pub closed-after : at < o → o - len ≡ closedAt at len o
-  unfolding closedAt
-  closed-after a = rw (lt-ltb _ _ a)
-
-  pub closed-gone : o ≤ at → o ≡ at → 0 ≡ closedAt at len o
-  unfolding closedAt
-  closed-gone a e = rw (le-ltb _ _ a, eq-eqb _ _ e)
-
-  pub closed-kept : o ≤ at → (o ≡ at → ⊥) → o ≡ closedAt at len o
-  unfolding closedAt
-  closed-kept a e = rw (le-ltb _ _ a, ne-eqb _ _ e)
-
--- ---- remap, in the code's terms
-
-pub remap-step : (n : ℕ) (φ : ℕ → ℕ) (b : List ℕ) (k : ℕ) → k < n
-    → remap φ (n - k) b k ≡ remap φ (n - (k + 1)) (setWord b (4 + 2 * k) (φ (offsetAt b k))) (k + 1)
-unfolding remap
-remap-step n φ b k h = ap (λ (m : ℕ). remap φ m b k) (minus-step n k h)
-
-pub remap-end : (n : ℕ) (φ : ℕ → ℕ) (b : List ℕ) (k : ℕ) → n ≤ k → remap φ (n - k) b k ≡ b
-unfolding remap
-remap-end n φ b k h = ap (λ (m : ℕ). remap φ m b k) (minus-end n k h)
-
--- ---- a header, by its count, its end and its offsets
-
-unfoldable pub head : Layout → ℕ → ℕ → (ℕ → ℕ) → List ℕ
-head l c e g = l .version ∷ c ∷ e / 256 ∷ e % 256 ∷ words (l .slots) 0 g
-
-pub words-get : (l j : ℕ) (g : ℕ → ℕ) (r : List ℕ) (k : ℕ) → k < l → wordAt (words l j g ++ r) (2 * k) ≡ g (j + k)
-unfolding words wordAt
-words-get zero j g r k a = absurd (omega arith)
-words-get (suc l) j g r zero a = ap (λ (x : ℕ). g x / 256 * 256 + g x % 256) (z j) ∙ whole (g (j + zero))
+pub moved-down : (b x y : List ℕ) (at old new e m : ℕ) → new ≤ old → at + old ≤ e → e ≤ length b → m ≡ e - (at + old) → x ≡ slid b (at + new) (old - new) m
+    → y ≡ zeroed x (e - old + new) (old - new) → y ≡ moved b at old new e
+unfolding moved
+moved-down b x y at old new e m a w z q p r =
+    r
+    ∙ zeroed-fits x (e - old + new) (old - new) (omega (arith, long))
+    ∙ ap (λ (u : List ℕ). paste u (e - old + new) (replicate (old - new) 0) (old - new)) (pasted ∙ ap₂ (λ (i j : ℕ). paste b (at + new) (drop i b) j) same q)
   where
-    z : (j : ℕ) → j ≡ j + zero
-    z j = omega arith
+    same : at + new + (old - new) ≡ at + old
+    same = omega arith
 
-    whole : (n : ℕ) → n / 256 * 256 + n % 256 ≡ n
-    whole n = omega arith
-words-get (suc l) j g r (suc k) a =
-    ap₂ (λ (x y : ℕ). getD (words (suc l) j g ++ r) x 0 * 256 + getD (words (suc l) j g ++ r) y 0) (two k) (three k)
-    ∙ words-get l (j + 1) g r k (omega arith)
-    ∙ ap g (sh j k)
-  where
-    two : (k : ℕ) → 2 * suc k ≡ suc (suc (2 * k))
-    two k = omega arith
+    pasted : x ≡ paste b (at + new) (drop (at + new + (old - new)) b) m
+    pasted = p ∙ slid-fits b (at + new) (old - new) m (omega arith)
 
-    three : (k : ℕ) → 2 * suc k + 1 ≡ suc (suc (2 * k + 1))
-    three k = omega arith
+    long : length x ≡ length b
+    long =
+        ap length pasted
+        ∙ length-paste b (at + new) (drop (at + new + (old - new)) b) m (omega arith) (omega (arith, length-drop (at + new + (old - new)) b))
 
-    sh : (j k : ℕ) → j + 1 + k ≡ j + suc k
-    sh j k = omega arith
+-- ---- shiftedAt
 
-pub head-get : (l : Layout) (c e : ℕ) (g : ℕ → ℕ) (r : List ℕ) (k : ℕ) → k < l .slots → offsetAt (head l c e g ++ r) k ≡ g k
-unfolding head offsetAt wordAt
-head-get l c e g r k a =
-    ap₂ (λ (x y : ℕ). getD (head l c e g ++ r) x 0 * 256 + getD (head l c e g ++ r) y 0) (four (2 * k)) (five (2 * k))
-    ∙ words-get (l .slots) 0 g r k a
-    ∙ ap g (z k)
-  where
-    four : (n : ℕ) → 4 + n ≡ suc (suc (suc (suc n)))
-    four n = omega arith
+module _ (at old new o : ℕ) where
+  pub shifted-after : at < o → o - old + new ≡ shiftedAt at old new o
+  unfolding shiftedAt
+  shifted-after a = rw (lt-ltb _ _ a)
 
-    five : (n : ℕ) → 4 + n + 1 ≡ suc (suc (suc (suc (n + 1))))
-    five n = omega arith
+  pub shifted-gone : o ≤ at → o ≡ at → 0 ≡ shiftedAt at old new o
+  unfolding shiftedAt
+  shifted-gone a e = rw (le-ltb _ _ a, eq-eqb _ _ e)
 
-    z : (k : ℕ) → 0 + k ≡ k
-    z k = omega arith
-
-head-length : (l : Layout) (c e : ℕ) (g : ℕ → ℕ) → length (head l c e g) ≡ start (l .slots)
-unfolding head
-head-length l c e g = omega (arith, words-length (l .slots) 0 g)
-
-pub head-set : (l : Layout) (c e : ℕ) (g h : ℕ → ℕ) (r : List ℕ) (k v : ℕ) → k < l .slots → h k ≡ v → ((x : ℕ) → (k ≡ x → ⊥) → g x ≡ h x) → setWord (head l c e g ++ r) (4 + 2 * k) v ≡ head l c e h ++ r
-unfolding head
-head-set l c e g h r k v a q n =
-    setWord-left (head l c e g) r (4 + 2 * k) v (omega (arith, head-length l c e g))
-    ∙ ap (λ (y : List ℕ). y ++ r)
-    (ap (λ (i : ℕ). setWord (head l c e g) i v) (four (2 * k))
-    ∙ setWord-skip (l .version) c (e / 256 ∷ e % 256 ∷ words (l .slots) 0 g) (suc (suc (2 * k))) v
-    ∙ ap (λ (y : List ℕ). l .version ∷ c ∷ y) (setWord-skip (e / 256) (e % 256) (words (l .slots) 0 g) (2 * k) v)
-    ∙ ap (λ (y : List ℕ). l .version ∷ c ∷ e / 256 ∷ e % 256 ∷ y)
-    (words-set (l .slots) 0 g h k v a (ap h (z k) ∙ q) (λ x w. n x (λ u. w (z k ∙ u)))))
-  where
-    four : (n : ℕ) → 4 + n ≡ suc (suc (suc (suc n)))
-    four n = omega arith
-
-    z : (k : ℕ) → 0 + k ≡ k
-    z k = omega arith
-
--- the offsets from slot j on, each as φ has it
-head-remap : (l : Layout) (φ : ℕ → ℕ) (c e : ℕ) (r : List ℕ) (d j : ℕ) (g h : ℕ → ℕ) → j + d ≤ l .slots
-    → ((x : ℕ) → j ≤ x → x < j + d → h x ≡ φ (g x)) → ((x : ℕ) → x < j → h x ≡ g x)
-    → j + d ≡ l .slots → remap φ d (head l c e g ++ r) j ≡ head l c e h ++ r
-unfolding remap head
-head-remap l φ c e r zero j g h b p q s = ap (λ (t : List ℕ). t ++ r) (same g h (λ x y. sym (q x (omega arith))))
-  where
-    same : (g h : ℕ → ℕ) → ((x : ℕ) → x < l .slots → g x ≡ h x) → head l c e g ≡ head l c e h
-    same g h n = ap (λ (t : List ℕ). l .version ∷ c ∷ e / 256 ∷ e % 256 ∷ t) (words-cong (l .slots) 0 g h (λ x y z. n x (omega arith)))
-head-remap l φ c e r (suc d) j g h b p q s =
-    ap (λ (t : List ℕ). remap φ d t (j + 1))
-    (ap (λ (v : ℕ). setWord (head l c e g ++ r) (4 + 2 * j) (φ v)) (head-get l c e g r j (omega arith))
-    ∙ head-set l c e g g1 r j (φ (g j)) (omega arith) here (λ x n. sym (there x n)))
-    ∙ head-remap l φ c e r d (j + 1) g1 h (omega arith)
-    (λ x a y. p x (omega arith) (omega arith) ∙ ap (φ) (sym (there x (λ u. absurd (omega arith)))))
-    (λ x a. go x a (eqb j x) refl)
-    (omega arith)
-  where
-    g1 : ℕ → ℕ
-    g1 x = cond (eqb j x) (φ (g j)) (g x)
-
-    here : cond (eqb j j) (φ (g j)) (g j) ≡ φ (g j)
-    here = rw (eq-eqb j j refl)
-
-    there : (x : ℕ) → (j ≡ x → ⊥) → cond (eqb j x) (φ (g j)) (g x) ≡ g x
-    there x n = rw (ne-eqb j x n)
-
-    go : (x : ℕ) → x < j + 1 → (t : Bool) → eqb j x ≡ t → h x ≡ cond (eqb j x) (φ (g j)) (g x)
-    go x a true w = let e' : j ≡ x = eqb-true j x w in rw w (subst (λ (y : ℕ). h y ≡ φ (g j)) e' (p j (omega arith) (omega arith)))
-    go x a false w = let n : j ≡ x → ⊥ = eqb-false j x w in rw w (q x (omega arith))
+  pub shifted-kept : o ≤ at → (o ≡ at → ⊥) → o ≡ shiftedAt at old new o
+  unfolding shiftedAt
+  shifted-kept a e = rw (le-ltb _ _ a, ne-eqb _ _ e)
 
 -- ---- the list, with a slot out
 
@@ -184,21 +103,21 @@ length-without k (g ∷ fs) h = go (length-without k fs) (eqb (slotOf g) k) h
 
 -- one more frame in front, of the slot that goes
 place-first : (p k : ℕ) (g : List ℕ) (fs : List (List ℕ)) → 0 < p → k < settings → length g ≡ sizeOf k → slotOf g ≡ k → held k fs ≡ false → (j : ℕ)
-    → place p fs j ≡ closedAt p (sizeOf k) (cond (eqb (slotOf g) j) p (place (p + length g) fs j))
+    → place p fs j ≡ shiftedAt p (sizeOf k) 0 (cond (eqb (slotOf g) j) p (place (p + length g) fs j))
 place-first p k g fs pos small len own fresh j = go (eqb (slotOf g) j) refl (held j fs) refl
   where
-    go : (t : Bool) → eqb (slotOf g) j ≡ t → (x : Bool) → held j fs ≡ x → place p fs j ≡ closedAt p (sizeOf k) (cond t p (place (p + length g) fs j))
+    go : (t : Bool) → eqb (slotOf g) j ≡ t → (x : Bool) → held j fs ≡ x → place p fs j ≡ shiftedAt p (sizeOf k) 0 (cond t p (place (p + length g) fs j))
     go true e x w =
-        place-none p fs j (ap (λ (i : ℕ). held i fs) (sym (eqb-true _ _ e) ∙ own) ∙ fresh) ∙ closed-gone p (sizeOf k) p (le-refl p) refl
+        place-none p fs j (ap (λ (i : ℕ). held i fs) (sym (eqb-true _ _ e) ∙ own) ∙ fresh) ∙ shifted-gone p (sizeOf k) 0 p (le-refl p) refl
     go false e true w =
         let v : ℕ = place (p + length g) fs j in
         let s : v ≡ place p fs j + length g = place-shift (length g) p fs j w in
-        let m : place p fs j ≡ v - (sizeOf k) = omega arith in
-        m ∙ closed-after p (sizeOf k) v (omega (arith, size-low k small, place-ge p fs j w))
+        let m : place p fs j ≡ v - (sizeOf k) + 0 = omega arith in
+        m ∙ shifted-after p (sizeOf k) 0 v (omega (arith, size-low k small, place-ge p fs j w))
     go false e false w =
-        place-none p fs j w ∙ closed-kept p (sizeOf k) 0 (omega arith) (λ z. absurd (omega arith)) ∙ ap (closedAt p (sizeOf k)) (sym (place-none (p + length g) fs j w))
+        place-none p fs j w ∙ shifted-kept p (sizeOf k) 0 0 (omega arith) (λ z. absurd (omega arith)) ∙ ap (shiftedAt p (sizeOf k) 0) (sym (place-none (p + length g) fs j w))
 
-pub place-without : (p k : ℕ) (fs : List (List ℕ)) → 0 < p → Sound fs → held k fs ≡ true → (j : ℕ) → place p (without k fs) j ≡ closedAt (place p fs k) (sizeOf k) (place p fs j)
+pub place-without : (p k : ℕ) (fs : List (List ℕ)) → 0 < p → Sound fs → held k fs ≡ true → (j : ℕ) → place p (without k fs) j ≡ shiftedAt (place p fs k) (sizeOf k) 0 (place p fs j)
 unfolding place without held
 place-without p k [] pos s h j = absurd (false≢true h)
 place-without p k (g ∷ fs) pos s h j = go (λ q. place-without (p + length g) k fs (omega arith) (s .2) q j) (eqb (slotOf g) k) refl h (eqb (slotOf g) j) refl
@@ -206,143 +125,227 @@ place-without p k (g ∷ fs) pos s h j = go (λ q. place-without (p + length g) 
     len : length g ≡ sizeOf (slotOf g)
     len = slotOf-length g (s .0)
 
-    go : (held k fs ≡ true → place (p + length g) (without k fs) j ≡ closedAt (place (p + length g) fs k) (sizeOf k) (place (p + length g) fs j)) → (t : Bool) → eqb (slotOf g) k ≡ t → cond t true (held k fs) ≡ true
+    go : (held k fs ≡ true → place (p + length g) (without k fs) j ≡ shiftedAt (place (p + length g) fs k) (sizeOf k) 0 (place (p + length g) fs j)) → (t : Bool) → eqb (slotOf g) k ≡ t → cond t true (held k fs) ≡ true
         → (u : Bool) → eqb (slotOf g) j ≡ u
-        → place p (cond t fs (g ∷ without k fs)) j ≡ closedAt (cond t p (place (p + length g) fs k)) (sizeOf k) (cond (eqb (slotOf g) j) p (place (p + length g) fs j))
+        → place p (cond t fs (g ∷ without k fs)) j ≡ shiftedAt (cond t p (place (p + length g) fs k)) (sizeOf k) 0 (cond (eqb (slotOf g) j) p (place (p + length g) fs j))
     go ih true e q u w =
         let own : slotOf g ≡ k = eqb-true _ _ e in
         place-first p k g fs pos (omega (arith, s .0)) (len ∙ ap (λ (x : ℕ). sizeOf x) own) own (ap (λ (i : ℕ). held i fs) (sym own) ∙ s .1) j
     go ih false e q true w =
-        rw w (closed-kept (place (p + length g) fs k) (sizeOf k) p (omega (arith, place-ge (p + length g) fs k q)) (λ z. absurd (omega (arith, len, size-low (slotOf g) (s .0), place-ge (p + length g) fs k q))))
+        rw w (shifted-kept (place (p + length g) fs k) (sizeOf k) 0 p (omega (arith, place-ge (p + length g) fs k q)) (λ z. absurd (omega (arith, len, size-low (slotOf g) (s .0), place-ge (p + length g) fs k q))))
     go ih false e q false w = rw w (ih q)
 
 -- ---- the bytes, with a slot out
 
-header-head : (l : Layout) (fs : List (List ℕ)) → header l fs ≡ head l (length fs) (start (l .slots) + length (flat fs)) (place (start (l .slots)) fs)
-unfolding header head
-header-head l fs = refl
+-- H, D and T, then z zeros: T moves to behind new bytes in place of D
+module _ (H D T : List ℕ) (new z : ℕ) (fits : new ≤ length D + z) where
+  abbrev Y : List ℕ
+  Y = D ++ (T ++ replicate z 0)
 
-head-edit : (l : Layout) (c e c' e' : ℕ) (g : ℕ → ℕ) (r : List ℕ) → setWord (set (head l c e g ++ r) 1 c') 2 e' ≡ head l c' e' g ++ r
-unfolding head setWord
-head-edit l c e c' e' g r = refl
+  long : length (D ++ (T ++ replicate z 0)) ≡ length D + length T + z
+  long = omega (arith, length-append D (T ++ replicate z 0), length-append T (replicate z 0), length-replicate {A = ℕ} z 0)
 
--- the bytes of F from o on, L of them taken out, the rest moved down and L zeros at the end
-module _ (F : List ℕ) (o L : ℕ) (room : o + L ≤ length F) where
-  m : ℕ
-  m = length F - (o + L)
+  body-slid : paste (D ++ (T ++ replicate z 0)) new (T ++ replicate z 0) (length T) ≡ (take new Y ++ T) ++ drop (new + length T) Y
+  body-slid = ap (λ (x : List ℕ). take new Y ++ x ++ drop (new + length T) Y) (take-at T (replicate z 0) (length T) refl)
 
-  moved : (Z : List ℕ) → paste F o (drop (o + L) F ++ Z) (length F - (o + L)) ≡ (take o F ++ drop (o + L) F) ++ drop (o + (length F - (o + L))) F
-  moved Z = ap (λ (x : List ℕ). take o F ++ x ++ drop (o + (length F - (o + L))) F) (take-at (drop (o + L) F) Z (length F - (o + L)) (length-drop (o + L) F))
+  front : length (take new (D ++ (T ++ replicate z 0)) ++ T) ≡ new + length T
+  front = length-append (take new Y) T ∙ ap (λ (x : ℕ). x + length T) (length-take-le new Y (omega (arith, long)))
 
-  front-length : length (take o F ++ drop (o + L) F) ≡ o + (length F - (o + L))
-  front-length = length-append (take o F) (drop (o + L) F) ∙ ap₂ (λ (x y : ℕ). x + y) (length-take-le o F (omega arith)) (length-drop (o + L) F)
+  abbrev d : ℕ
+  d = length D - new
 
-  cleared : paste ((take o F ++ drop (o + L) F) ++ drop (o + (length F - (o + L))) F) (o + (length F - (o + L))) (replicate L 0) L ≡ (take o F ++ drop (o + L) F) ++ replicate L 0
-  cleared =
-      ap₂ (λ (x y : List ℕ). x ++ y)
-      (ap₂ (λ (x y : List ℕ). x ++ y) (take-at X Y M front-length) (take-all L (replicate L 0) (omega (arith, length-replicate {A = ℕ} L 0))))
-      (drop-of-length-le (X ++ Y) {i = M + L} (omega (arith, length-append X Y, front-length, length-drop M F)))
-      ∙ append-nil (X ++ replicate L 0)
+  left : drop (length D - new) (drop (new + length T) (D ++ (T ++ replicate z 0))) ≡ replicate (z - (new - length D)) 0
+  left =
+      drop-drop (length D - new) (new + length T) Y
+      ∙ ap (λ (x : ℕ). drop x Y) i
+      ∙ drop-append-add D (T ++ replicate z 0) (length T + (new - length D))
+      ∙ drop-append-add T (replicate z 0) (new - length D)
+      ∙ drop-replicate z (new - length D)
     where
-      M : ℕ
-      M = o + (length F - (o + L))
+      i : new + length T + (length D - new) ≡ length D + (length T + (new - length D))
+      i = omega arith
 
-      X : List ℕ
-      X = take o F ++ drop (o + L) F
+  body-zeroed : paste ((take new (D ++ (T ++ replicate z 0)) ++ T) ++ drop (new + length T) (D ++ (T ++ replicate z 0))) (new + length T) (replicate (length D - new) 0) (length D - new)
+      ≡ take new Y ++ (T ++ replicate (z + length D - new) 0)
+  body-zeroed =
+      paste-at (take new Y ++ T) (drop (new + length T) Y) (replicate d 0) (new + length T) d front (length-replicate {A = ℕ} d 0)
+      ∙ append-assoc (take new Y) T (replicate d 0 ++ drop d (drop (new + length T) Y))
+      ∙ ap (λ (x : List ℕ). take new Y ++ (T ++ x)) (ap (λ (x : List ℕ). replicate d 0 ++ x) left ∙ replicate-append-replicate d (z - (new - length D)) 0 ∙ ap (λ (n : ℕ). replicate n 0) n)
+    where
+      n : length D - new + (z - (new - length D)) ≡ z + length D - new
+      n = omega arith
 
-      Y : List ℕ
-      Y = drop M F
+  body-moved : paste (paste (H ++ (D ++ (T ++ replicate z 0))) (length H + new) (T ++ replicate z 0) (length T)) (length H + (new + length T)) (replicate (length D - new) 0) (length D - new)
+      ≡ H ++ (take new (D ++ (T ++ replicate z 0)) ++ (T ++ replicate (z + length D - new) 0))
+  body-moved =
+      ap (λ (x : List ℕ). paste x (length H + (new + length T)) (replicate d 0) d) (paste-right H Y new (T ++ replicate z 0) (length T) ∙ ap (λ (x : List ℕ). H ++ x) body-slid)
+      ∙ paste-right H ((take new Y ++ T) ++ drop (new + length T) Y) (new + length T) (replicate d 0) d
+      ∙ ap (λ (x : List ℕ). H ++ x) body-zeroed
+
+-- THE REFIT: the image of a list, with room for new bytes where the frame of slot k stood; its slot is absent
+module _ (l : Layout) (n k new : ℕ) (fs : List (List ℕ)) (s : Sound fs) (h : held k fs ≡ true) (had : start (l .slots) + length (flat fs) ≤ n)
+    (fit : start (l .slots) + length (flat fs) - sizeOf k + new ≤ n) where
+  abbrev refitBody : List ℕ
+  refitBody = take (place 0 fs k) (flat fs) ++ (take new (take (sizeOf k) (drop (place 0 fs k) (flat fs)) ++ (drop (place 0 fs k + sizeOf k) (flat fs) ++ replicate (n - (start (l .slots) + length (flat fs))) 0)) ++ (drop (place 0 fs k + sizeOf k) (flat fs) ++ replicate (n - (start (l .slots) + length (flat fs)) + sizeOf k - new) 0))
+
+  pub refit-image : refitted (l .slots) (image l n fs) (place (start (l .slots)) fs k) (sizeOf k) new (start (l .slots) + length (flat fs))
+      ≡ head l (length fs) (start (l .slots) + length (flat fs) - sizeOf k + new) (λ x. shiftedAt (place (start (l .slots)) fs k) (sizeOf k) new (place (start (l .slots)) fs x)) ++ refitBody
+  unfolding refitted moved image
+  refit-image =
+      ap (λ (x : List ℕ). setWord (mv x) 2 (E - old + new)) (ap (λ (x : List ℕ). remap φ (l .slots) (x ++ (flat fs ++ Z)) 0) (header-head l fs) ∙ head-remap l φ (length fs) E (flat fs ++ Z) (l .slots) 0 (place A fs) h1 (omega arith) (λ x u v. refl) (λ x u. absurd (omega arith)) (omega arith))
+      ∙ ap (λ (x : List ℕ). setWord x 2 (E - old + new)) bytes
+      ∙ head-end l (length fs) E (E - old + new) h1 B
+    where
+      A : ℕ
+      A = start (l .slots)
+
+      at : ℕ
+      at = place (start (l .slots)) fs k
+
+      o : ℕ
+      o = place 0 fs k
+
+      old : ℕ
+      old = sizeOf k
+
+      E : ℕ
+      E = start (l .slots) + length (flat fs)
+
+      φ : ℕ → ℕ
+      φ = shiftedAt at old new
+
+      h1 : ℕ → ℕ
+      h1 x = shiftedAt (place (start (l .slots)) fs k) (sizeOf k) new (place (start (l .slots)) fs x)
+
+      z : ℕ
+      z = n - (start (l .slots) + length (flat fs))
+
+      Z : List ℕ
+      Z = replicate z 0
+
+      H : List ℕ
+      H = take o (flat fs)
+
+      D : List ℕ
+      D = take old (drop o (flat fs))
+
+      T : List ℕ
+      T = drop (o + old) (flat fs)
+
+      t : ℕ
+      t = length (drop (place 0 fs k + sizeOf k) (flat fs))
+
+      B : List ℕ
+      B = H ++ (take new (D ++ (T ++ Z)) ++ (T ++ replicate (z + old - new) 0))
+
+      hd : List ℕ
+      hd = head l (length fs) E h1
+
+      mv : List ℕ → List ℕ
+      mv b = paste (paste b (at + new) (drop (at + old) b) (E - (at + old))) (E - old + new) (replicate (old - new) 0) (old - new)
+
+      in-F : o + old ≤ length (flat fs)
+      in-F = omega (arith, place-in 0 fs k s h)
+
+      at-o : place (start (l .slots)) fs k ≡ place 0 fs k + start (l .slots)
+      at-o = place-from (start (l .slots)) fs k h
+
+      tl : length (drop (place 0 fs k + sizeOf k) (flat fs)) ≡ length (flat fs) - (place 0 fs k + sizeOf k)
+      tl = length-drop (place 0 fs k + sizeOf k) (flat fs)
+
+      hl : length H ≡ o
+      hl = length-take-le o (flat fs) (omega (arith, in-F))
+
+      dl : length D ≡ old
+      dl = length-take-le old (drop o (flat fs)) (omega (arith, in-F, length-drop o (flat fs)))
+
+      dh : length hd ≡ start (l .slots)
+      dh = head-length l (length fs) E h1
+
+      parts : flat fs ≡ H ++ (D ++ T)
+      parts = sym (take-append-drop o (flat fs)) ∙ ap (λ (x : List ℕ). H ++ x) (sym (take-append-drop old (drop o (flat fs))) ∙ ap (λ (x : List ℕ). D ++ x) (drop-drop old o (flat fs)))
+
+      whole : flat fs ++ Z ≡ H ++ (D ++ (T ++ Z))
+      whole = ap (λ (x : List ℕ). x ++ Z) parts ∙ append-assoc H (D ++ T) Z ∙ ap (λ (x : List ℕ). H ++ x) (append-assoc D T Z)
+
+      body : paste (paste (flat fs ++ Z) (o + new) (T ++ Z) t) (o + (new + t)) (replicate (old - new) 0) (old - new) ≡ B
+      body =
+          ap (λ (x : List ℕ). paste (paste x (o + new) (T ++ Z) t) (o + (new + t)) (replicate (old - new) 0) (old - new)) whole
+          ∙ subst (λ (x : ℕ). paste (paste (H ++ (D ++ (T ++ Z))) (x + new) (T ++ Z) t) (x + (new + t)) (replicate (old - new) 0) (old - new) ≡ B) hl
+          (subst (λ (x : ℕ). paste (paste (H ++ (D ++ (T ++ Z))) (length H + new) (T ++ Z) t) (length H + (new + t)) (replicate (x - new) 0) (x - new) ≡ H ++ (take new (D ++ (T ++ Z)) ++ (T ++ replicate (z + x - new) 0))) dl
+          (body-moved H D T new z (omega (arith, dl, in-F, fit, had))))
+
+      source : drop (at + old) (hd ++ (flat fs ++ Z)) ≡ T ++ Z
+      source = ap (λ (i : ℕ). drop i (hd ++ (flat fs ++ Z))) i ∙ drop-append-add hd (flat fs ++ Z) (o + old) ∙ drop-append-le (o + old) (flat fs) Z in-F
+        where
+          i : at + old ≡ length hd + (o + old)
+          i = omega (arith, at-o, dh)
+
+      bytes : paste (paste (hd ++ (flat fs ++ Z)) (at + new) (drop (at + old) (hd ++ (flat fs ++ Z))) (E - (at + old))) (E - old + new) (replicate (old - new) 0) (old - new) ≡ hd ++ B
+      bytes =
+          ap₂ (λ (x : List ℕ) (i : ℕ). paste x i (replicate (old - new) 0) (old - new))
+          (ap₂ (λ (i c : ℕ). paste (hd ++ (flat fs ++ Z)) i (drop (at + old) (hd ++ (flat fs ++ Z))) c) i1 c1
+          ∙ ap (λ (S : List ℕ). paste (hd ++ (flat fs ++ Z)) (length hd + (o + new)) S t) source
+          ∙ paste-right hd (flat fs ++ Z) (o + new) (T ++ Z) t)
+          i2
+          ∙ paste-right hd (paste (flat fs ++ Z) (o + new) (T ++ Z) t) (o + (new + t)) (replicate (old - new) 0) (old - new)
+          ∙ ap (λ (x : List ℕ). hd ++ x) body
+        where
+          i1 : at + new ≡ length hd + (o + new)
+          i1 = omega (arith, at-o, dh)
+
+          c1 : E - (at + old) ≡ t
+          c1 = omega (arith, at-o, tl)
+
+          i2 : E - old + new ≡ length hd + (o + (new + t))
+          i2 = omega (arith, dh, tl, in-F)
 
 pub taken-image : (l : Layout) (n k : ℕ) (fs : List (List ℕ)) → Sound fs → held k fs ≡ true → start (l .slots) + length (flat fs) ≤ n
     → takenOut (l .slots) (image l n fs) (place (start (l .slots)) fs k) (sizeOf k) (start (l .slots) + length (flat fs)) ≡ image l n (without k fs)
 unfolding image takenOut header
 taken-image l n k fs s h fits =
-    ap (λ (y : List ℕ). setWord (set (remap (closedAt at L) (l .slots) y 0) 1 (getD (header l fs ++ (F ++ Z)) 1 0 - 1)) 2 (E - L)) bytes
-    ∙ ap (λ (y : List ℕ). setWord (set y 1 (length fs - 1)) 2 (E - L))
-    (head-remap l (closedAt at L) (length fs) E rest (l .slots) 0 (place (start (l .slots)) fs) (place (start (l .slots)) (without k fs)) (omega arith)
-    (λ x a b. place-without (start (l .slots)) k fs (omega arith) s h x) (λ x a. absurd (omega arith)) (omega arith))
-    ∙ head-edit l (length fs) E (length fs - 1) (E - L) (place (start (l .slots)) (without k fs)) rest
+    ap (λ (y : List ℕ). set y 1 (length fs - 1)) (refit-image l n k 0 fs s h fits (omega (arith, room, fits)))
+    ∙ head-count l (length fs) (E - L + 0) (length fs - 1) h1 rest
+    ∙ ap (λ (y : List ℕ). y ++ rest) (head-same l (length fs - 1) (E - L + 0) h1 (place (start (l .slots)) (without k fs)) (λ x. sym (place-without (start (l .slots)) k fs (omega arith) s h x)))
     ∙ ap₂ (λ (c e : ℕ). head l c e (place (start (l .slots)) (without k fs)) ++ rest) count ends
-    ∙ ap (λ (y : List ℕ). y ++ rest) (sym (header-head l (without k fs)))
-    ∙ ap (λ (y : List ℕ). header l (without k fs) ++ y) tail
+    ∙ ap₂ (λ (x y : List ℕ). x ++ y) (sym (header-head l (without k fs))) tail
   where
-    F : List ℕ
-    F = flat fs
-
     L : ℕ
     L = sizeOf k
 
     E : ℕ
     E = start (l .slots) + length (flat fs)
 
-    at : ℕ
-    at = place (start (l .slots)) fs k
-
     o : ℕ
     o = place 0 fs k
 
-    Z : List ℕ
-    Z = replicate (n - (start (l .slots) + length (flat fs))) 0
+    T : List ℕ
+    T = drop (place 0 fs k + sizeOf k) (flat fs)
 
-    at-o : place (start (l .slots)) fs k ≡ place 0 fs k + start (l .slots)
-    at-o = place-from (start (l .slots)) fs k h
+    h1 : ℕ → ℕ
+    h1 x = shiftedAt (place (start (l .slots)) fs k) (sizeOf k) 0 (place (start (l .slots)) fs x)
 
-    room : o + L ≤ length F
+    room : o + L ≤ length (flat fs)
     room = omega (arith, place-in 0 fs k s h)
 
-    M : ℕ
-    M = length F - (o + L)
-
     rest : List ℕ
-    rest = ((take o F ++ drop (o + L) F) ++ replicate L 0) ++ Z
+    rest = take o (flat fs) ++ (T ++ replicate (n - (start (l .slots) + length (flat fs)) + sizeOf k - 0) 0)
 
-    source : drop (at + L) (header l fs ++ (F ++ Z)) ≡ drop (o + L) F ++ Z
-    source = ap (λ (i : ℕ). drop i (header l fs ++ (F ++ Z))) i ∙ drop-append-add (header l fs) (F ++ Z) (o + L) ∙ drop-append-le (o + L) F Z room
-      where
-        i : at + L ≡ length (header l fs) + (o + L)
-        i = omega (arith, at-o, header-length l fs)
-
-    slid : paste (header l fs ++ (F ++ Z)) at (drop (at + L) (header l fs ++ (F ++ Z))) (E - (at + L)) ≡ header l fs ++ (((take o F ++ drop (o + L) F) ++ drop (o + M) F) ++ Z)
-    slid =
-        ap₂ (λ (i c : ℕ). paste (header l fs ++ (F ++ Z)) i (drop (at + L) (header l fs ++ (F ++ Z))) c) i c
-        ∙ ap (λ (S : List ℕ). paste (header l fs ++ (F ++ Z)) (length (header l fs) + o) S M) source
-        ∙ paste-right (header l fs) (F ++ Z) o (drop (o + L) F ++ Z) M
-        ∙ ap (λ (y : List ℕ). header l fs ++ y) (paste-left F Z o (drop (o + L) F ++ Z) M (omega (arith, room)) ∙ ap (λ (y : List ℕ). y ++ Z) (moved F o L room Z))
-      where
-        i : at ≡ length (header l fs) + o
-        i = omega (arith, at-o, header-length l fs)
-
-        c : E - (at + L) ≡ M
-        c = omega (arith, at-o)
-
-    bytes : paste (paste (header l fs ++ (F ++ Z)) at (drop (at + L) (header l fs ++ (F ++ Z))) (E - (at + L))) (E - L) (replicate L 0) L ≡ head l (length fs) E (place (start (l .slots)) fs) ++ rest
-    bytes =
-        ap₂ (λ (y : List ℕ) (i : ℕ). paste y i (replicate L 0) L) slid i
-        ∙ paste-right (header l fs) (PF ++ Z) (o + M) (replicate L 0) L
-        ∙ ap (λ (y : List ℕ). header l fs ++ y) (paste-left PF Z (o + M) (replicate L 0) L (omega (arith, room, length-append (take o F ++ drop (o + L) F) (drop (o + M) F), front-length F o L room, length-drop (o + M) F)) ∙ ap (λ (y : List ℕ). y ++ Z) (cleared F o L room))
-        ∙ ap (λ (y : List ℕ). y ++ rest) (header-head l fs)
-      where
-        PF : List ℕ
-        PF = (take o F ++ drop (o + L) F) ++ drop (o + M) F
-
-        i : E - L ≡ length (header l fs) + (o + M)
-        i = omega (arith, header-length l fs, room)
-
-    gone : length (flat (without k fs)) ≡ o + M
-    gone = ap length (flat-without k fs s h) ∙ front-length F o L room
+    gone : length (flat (without k fs)) ≡ o + (length (flat fs) - (o + L))
+    gone = ap length (flat-without k fs s h) ∙ length-append (take o (flat fs)) T ∙ ap₂ (λ (x y : ℕ). x + y) (length-take-le o (flat fs) (omega (arith, room))) (length-drop (o + L) (flat fs))
 
     count : length fs - 1 ≡ length (without k fs)
     count = omega (arith, length-without k fs h)
 
-    ends : E - L ≡ start (l .slots) + length (flat (without k fs))
+    ends : E - L + 0 ≡ start (l .slots) + length (flat (without k fs))
     ends = omega (arith, gone, room)
 
     tail : rest ≡ flat (without k fs) ++ replicate (n - (start (l .slots) + length (flat (without k fs)))) 0
     tail =
-        append-assoc (take o F ++ drop (o + L) F) (replicate L 0) Z
-        ∙ ap₂ (λ (x y : List ℕ). x ++ y) (sym (flat-without k fs s h)) (replicate-append-replicate L (n - (start (l .slots) + length (flat fs))) 0 ∙ ap (λ (i : ℕ). replicate i 0) i)
+        sym (append-assoc (take o (flat fs)) T (replicate (n - (start (l .slots) + length (flat fs)) + sizeOf k - 0) 0))
+        ∙ ap₂ (λ (x : List ℕ) (i : ℕ). x ++ replicate i 0) (sym (flat-without k fs s h)) i
       where
-        i : L + (n - (start (l .slots) + length (flat fs))) ≡ n - (start (l .slots) + length (flat (without k fs)))
+        i : n - (start (l .slots) + length (flat fs)) + sizeOf k - 0 ≡ n - (start (l .slots) + length (flat (without k fs)))
         i = omega (arith, gone, room)
 
 -- ---- what a removal answers

@@ -11,12 +11,14 @@ use borrow.Author.Tests.{eqb-true, eq-eqb}
 use lib.Dec.{eqb}
 use lib.ListN.{length}
 use Rattle.decoder.specs.Decoding.{Reading, decode, reading, refuses}
-use Rattle.book.specs.Settings.{lengths, settings, sizeOf, slotFor, slotIn, slotOf}
-use Rattle.book.specs.Plain.{flat, held}
-use Rattle.book.specs.Book.{ours, start}
+use Rattle.table.specs.Table.{settings}
+use Rattle.settings.specs.Settings.{lengths, sizeOf, slotFor, slotIn, slotOf}
+use Rattle.settings.proofs.Settings.{slot-zero}
+use Rattle.contents.specs.Frames.{flat, held}
+use Rattle.contents.specs.Contents.{start}
+use Rattle.contents.proofs.Shape.{Sound, count-held, count-same, countFrom, sound-within, sum-held, sumFrom, sumOf}
+use Rattle.book.specs.Book.{ours}
 use Rattle.book.specs.History.{Call, onList, turn}
-use Rattle.book.proofs.Shape.{Sound, count-held, count-same, countFrom, sound-within, sum-held, sumFrom, sumOf}
-use Rattle.book.proofs.Settings.{slot-zero}
 use Rattle.book.proofs.Kept.{empty-kept, turns-kept}
 
 -- ---- one frame for each kind

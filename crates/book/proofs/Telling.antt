@@ -13,17 +13,22 @@ use lib.ListN.{drop, getD, length, length-append, length-drop, length-set, repli
 use lib.Seq.{drop-append-add, drop-append-le, drop-drop, length-paste, length-take-le, paste, set-split, take-append-le, take-at, take-length}
 use Rattle.refusal.specs.declared.Refusal.the-variants.{NotAKind, NotHeld, OutputShort}
 use Rattle.reel.specs.Reel.{reelOf}
+use Rattle.spans.specs.Spans.{written}
+use Rattle.spans.proofs.Spans.{written-fits}
 use Rattle.book.specs.declared.Answer.the-variants.{Done, Refused}
-use Rattle.book.specs.Settings.{settings, sizeOf, slotFor, slotOf}
-use Rattle.book.specs.Plain.{askOn, flat, frameOf, held, refuse, replayOn, tell}
-use Rattle.book.specs.Book.{Layout, framesFrom, header, holds, image, lengthAt, offsetAt, place, roomOf, start, wordAt}
-use Rattle.book.specs.Edits.{reelFrom}
-use Rattle.book.proofs.Settings.{slotOf-length}
-use Rattle.book.proofs.Shape.{Sound, place-from, place-in, place-shift}
+use Rattle.table.specs.Table.{settings}
+use Rattle.settings.specs.Settings.{sizeOf, slotFor, slotOf}
+use Rattle.settings.proofs.Settings.{slotOf-length}
+use Rattle.contents.specs.Frames.{flat, held, place}
+use Rattle.contents.specs.Contents.{Layout, framesFrom, header, holds, image, lengthAt, offsetAt, roomOf, slotAt, start, wordAt}
+use Rattle.contents.proofs.Shape.{Sound, place-from, place-in, place-shift}
+use Rattle.contents.proofs.Judged.{Bytes, Split, framesFrom-none, framesFrom-split, offsets}
+use Rattle.contents.proofs.Headers.{header-length}
+use Rattle.contents.proofs.Steps.{minus-end, minus-step, slot-fits}
+use Rattle.book.specs.Plain.{askOn, frameOf, refuse, replayOn, tell}
+use Rattle.book.proofs.Known.{count-is, end-is, is-held, is-image, not-held, stay, tiling}
+use Rattle.book.specs.Edits.{Tiles, reelFrom}
 use Rattle.book.proofs.Calls.{Gives, Holds, holds-reads}
-use Rattle.book.proofs.Judged.{Bytes, Split, framesFrom-none, framesFrom-split, offsets}
-use Rattle.book.proofs.Putting.{count-is, end-is, header-length, is-held, is-image, not-held, stay, tiling}
-use Rattle.book.proofs.Steps.{minus-end, minus-step}
 
 -- s laid over o from w on
 abbrev lay : List ℕ → ℕ → List ℕ → List ℕ
@@ -143,15 +148,18 @@ module _ (l : Layout) (b : List ℕ) (B : Bytes b) (h : Holds l b) (o : List ℕ
           stay l b B h (askOn k) o (Refused OutputShort) o
           (askOn-held k s own o (roomOf l (length b)) (h .frames) a (is-held l b B h s at am q n) ∙ tell-short (frameOf s (h .frames)) o (h .frames) (omega (arith, frame-length r)))
 
-      pub ask-done : (x r : List ℕ) → at + (sizeOf s) ≤ length b → sizeOf s ≤ length o → r ≡ take (at + (sizeOf s) - at) (drop at b) → x ≡ paste o 0 r (length r) → Gives l (askOn k) o b (Done (sizeOf s)) x b
+      pub ask-done : (x r : List ℕ) → at + (sizeOf s) ≤ length b → sizeOf s ≤ length o → r ≡ take (at + (sizeOf s) - at) (drop at b) → x ≡ written o 0 r → Gives l (askOn k) o b (Done (sizeOf s)) x b
       ask-done x r i w e p =
           stay l b B h (askOn k) o (Done (sizeOf s)) x
           (askOn-held k s own o (roomOf l (length b)) (h .frames) a (is-held l b B h s at am q n)
           ∙ tell-fits (frameOf s (h .frames)) o (h .frames) (sizeOf s) (frame-length i) w
-          ∙ ap (λ (y : List ℕ). record { answer = Done (sizeOf s); output = y; frames = h .frames }) (sym (p ∙ paste-lay o 0 r (length r) refl ∙ ap (lay o 0) (e ∙ ap (λ (n : ℕ). take n (drop at b)) (c at (sizeOf s)) ∙ frame-at))))
+          ∙ ap (λ (y : List ℕ). record { answer = Done (sizeOf s); output = y; frames = h .frames }) (sym (p ∙ written-fits o 0 r (omega (arith, size)) ∙ paste-lay o 0 r (length r) refl ∙ ap (lay o 0) (e ∙ ap (λ (n : ℕ). take n (drop at b)) (c at (sizeOf s)) ∙ frame-at))))
         where
           c : (x y : ℕ) → x + y - x ≡ y
           c x y = omega arith
+
+          size : length r ≡ sizeOf s
+          size = ap length e ∙ length-take-le (at + sizeOf s - at) (drop at b) (omega (arith, length-drop at b)) ∙ c at (sizeOf s)
 
 -- ---- replay
 
@@ -242,5 +250,24 @@ pub part-size : (b : List ℕ) (p n : ℕ) → p + n ≤ length b → length (ta
 part-size b p n h = ap length (part-plain b p n) ∙ length-take-le n (drop p b) (omega (arith, length-drop p b))
 
 pub part-put : (b : List ℕ) (p n : ℕ) (o : List ℕ) (w : ℕ) → p + n ≤ length b
-    → paste o w (take (p + n - p) (drop p b)) (length (take (p + n - p) (drop p b))) ≡ paste o w (take n (drop p b)) n
-part-put b p n o w h = ap₂ (λ (s : List ℕ) (i : ℕ). paste o w s i) (part-plain b p n) (part-size b p n h)
+    → w + n ≤ length o → written o w (take (p + n - p) (drop p b)) ≡ paste o w (take n (drop p b)) n
+part-put b p n o w h r =
+    written-fits o w (take (p + n - p) (drop p b)) (omega (arith, part-size b p n h))
+    ∙ ap₂ (λ (s : List ℕ) (i : ℕ). paste o w s i) (part-plain b p n) (part-size b p n h)
+
+-- one frame less to write
+pub record Onward (m k : ℕ) (b : List ℕ) (p e n : ℕ) : Type 0 where
+  pub same : n ≡ lengthAt m b p e
+  pub ends : p + n ≤ e
+  pub rest : Tiles m k b (p + n) e
+
+pub tiles-step : (m c i : ℕ) (b : List ℕ) (p e n : ℕ) → i < c → start m ≤ length b → n ≡ sizeOf (slotAt m b p) → Tiles m (c - i) b p e → Onward m (c - (i + 1)) b p e n
+tiles-step m c i b p e n h fits en t =
+    let k : c - i ≡ suc (c - (i + 1)) = omega arith in
+    let s = framesFrom-split m (c - (i + 1)) b p e (t .frames) (ap (λ (x : ℕ). framesFrom m x b p e) (sym k) ∙ t .reads) in
+    let q : n ≡ lengthAt m b p e = en ∙ ap sizeOf (slot-fits m b p fits) ∙ sym (s .sized) in
+    record {
+      same = q;
+      ends = omega (arith, s .ends);
+      rest = record { frames = s .rest; reads = ap (λ (x : ℕ). framesFrom m (c - (i + 1)) b (p + x) e) q ∙ s .reads };
+    }

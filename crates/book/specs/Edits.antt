@@ -1,13 +1,13 @@
 -- What the code's edits make of a buffer, byte by byte. That they give the image of the list after a call is proved in proofs/.
 -- Assumes nothing.
-use Prim.Native.Nat.{ℕ, zero, suc, _+_, _-_, _*_, _/_, _%_}
+use Prim.Native.Nat.{ℕ, zero, suc, _+_, _-_, _*_, _/_, _%_, _<_, _≤_}
 use mathlib.Core.Path.{_≡_}
 use mathlib.Core.Bool.{cond}
 use mathlib.Core.List.{List}
 use lib.Dec.{eqb, ltb}
 use lib.ListN.{length, take, drop, getD, set, replicate}
 use lib.Seq.{paste}
-use Rattle.book.specs.Book.{offsetAt, lengthAt, holds, framesFrom}
+use Rattle.contents.specs.Contents.{framesFrom, holds, lengthAt, longest, offsetAt}
 
 -- the number v in the two bytes at i, high byte first
 unfoldable pub setWord : List ℕ → ℕ → ℕ → List ℕ
@@ -17,23 +17,33 @@ setWord b i v = set (set b i (v / 256)) (i + 1) (v % 256)
 unfoldable pub appended : List ℕ → List ℕ → ℕ → ℕ → List ℕ
 appended b f s e = setWord (setWord (set (paste b e f (length f)) 1 (getD b 1 0 + 1)) 2 (e + length f)) (4 + 2 * s) e
 
--- an offset, once len bytes at `at` are gone
-unfoldable pub closedAt : ℕ → ℕ → ℕ → ℕ
-closedAt at len o = cond (ltb at o) (o - len) (cond (eqb o at) 0 o)
+-- an offset, once the old bytes at `at` are new ones: behind them it moves with what stands there, and that of their own slot is gone
+unfoldable pub shiftedAt : ℕ → ℕ → ℕ → ℕ → ℕ
+shiftedAt at old new o = cond (ltb at o) (o - old + new) (cond (eqb o at) 0 o)
+
+-- no offset of m slots is past what a buffer can have
+pub record Low (m : ℕ) (b : List ℕ) : Type 0 where
+  pub low : (s : ℕ) → s < m → offsetAt b s ≤ longest
 
 -- the n offsets from slot s on, each as φ has it
 unfoldable pub remap : (ℕ → ℕ) → ℕ → List ℕ → ℕ → List ℕ
 remap φ zero b s = b
 remap φ (suc n) b s = remap φ n (setWord b (4 + 2 * s) (φ (offsetAt b s))) (s + 1)
 
--- the bytes from at to at + len taken out of a book of m slots that ends at e: what stands behind moves down, and zeros take its room
-unfoldable pub takenOut : ℕ → List ℕ → ℕ → ℕ → ℕ → List ℕ
-takenOut m b at len e =
-    setWord
-    (set (remap (closedAt at len) m (paste (paste b at (drop (at + len) b) (e - (at + len))) (e - len) (replicate len 0) len) 0) 1 (getD b 1 0 - 1))
-    2 (e - len)
+-- what stands behind the old bytes at `at`, up to e, moved to behind the new ones, and zeros where it leaves bytes
+unfoldable pub moved : List ℕ → ℕ → ℕ → ℕ → ℕ → List ℕ
+moved b at old new e =
+    paste (paste b (at + new) (drop (at + old) b) (e - (at + old))) (e - old + new) (replicate (old - new) 0) (old - new)
 
--- c frames tile the bytes from p to e
+-- room for new bytes where the old ones at `at` stood, in a book of m slots that ends at e
+unfoldable pub refitted : ℕ → List ℕ → ℕ → ℕ → ℕ → ℕ → List ℕ
+refitted m b at old new e = setWord (moved (remap (shiftedAt at old new) m b 0) at old new e) 2 (e - old + new)
+
+-- the len bytes at `at` taken out: a refit with no bytes in their place, and one frame less
+unfoldable pub takenOut : ℕ → List ℕ → ℕ → ℕ → ℕ → List ℕ
+takenOut m b at len e = set (refitted m b at len 0 e) 1 (getD b 1 0 - 1)
+
+-- c frames fill the bytes from p to e
 pub record Tiles (m c : ℕ) (b : List ℕ) (p e : ℕ) : Type 0 where
   pub frames : List (List ℕ)
   pub reads : framesFrom m c b p e ≡ holds frames

@@ -3,8 +3,9 @@
 use Prim.Native.Nat.{ℕ}
 use mathlib.Core.List.{List, [], _∷_}
 use Rattle.book.specs.declared.Answer.{Answer}
-use Rattle.book.specs.Plain.{Turn, become, putOn, removeOn, clearOn, askOn, replayOn}
-use Rattle.book.specs.Book.{Layout, Outcome, call, made}
+use Rattle.contents.specs.Contents.{Layout}
+use Rattle.book.specs.Plain.{Turn, askOn, become, clearOn, putOn, removeOn, replayOn}
+use Rattle.book.specs.Book.{Outcome, call, made}
 
 -- ---- runs, whatever the calls are
 
@@ -41,7 +42,7 @@ onList turn (c ∷ cs) fs =
 
 -- ---- the calls of a whole book
 
--- "Calls: make; put a frame; remove a kind; ask for a kind's frame; clear; replay as a reel." Ask and replay have the output that is lent.
+-- The calls of a book (REFERENCE, "Book"). Ask and replay have the output that is lent.
 pub data Call : Type 0 where
   Make : Call
   Put : List ℕ → Call
@@ -50,7 +51,7 @@ pub data Call : Type 0 where
   Clear : Call
   Replay : List ℕ → Call
 
--- what a call makes of bytes: the outcome that its contract names
+-- What a call makes of bytes: the contract of each function says just this.
 abbrev pub after : Layout → Call → List ℕ → Outcome
 after l Make b = made l b
 after l (Put f) b = call l (putOn f) [] b

@@ -12,7 +12,7 @@ use Rattle.book.specs.declared.Answer.{Answer}
 use Rattle.book.specs.declared.Answer.the-variants.{Done, Refused}
 use Rattle.book.specs.Book.{ours}
 use Rattle.book.specs.History.{Call, after}
-use Rattle.book.proofs.Judged.{Bytes}
+use Rattle.contents.proofs.Judged.{Bytes}
 use Rattle.book.proofs.Keeps.{lentTo, refused-keeps}
 use Rattle.hoardbutton.specs.Books.{answerC}
 use Rattle.hoardbutton.specs.Reels.{dumpC, textC}

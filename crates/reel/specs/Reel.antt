@@ -1,4 +1,4 @@
--- The reel: how frames make one, what a reel is made of, and what a step at a place finds. The quotations are document 01's.
+-- The reel: how frames make one, what a reel is made of, and what a step at a place finds (REFERENCE, "Reel").
 -- Assumes nothing.
 use Prim.Native.Nat.{ℕ, zero, suc, _+_, _-_}
 use mathlib.Core.Bool.{cond}
@@ -11,7 +11,7 @@ use Rattle.reel.specs.declared.Step.the-variants.{Frame, End, Refused}
 
 -- ---- from frames to a reel and back
 
--- "A reel is frames, each after one length byte (0 to 255)."
+-- Frames one after the other, each with a byte before it that says how long it is.
 unfoldable pub reelOf : List (List ℕ) → List ℕ
 reelOf [] = []
 reelOf (f ∷ fs) = length f ∷ f ++ reelOf fs
@@ -41,8 +41,8 @@ unreel s = unreelBy (length s) s
 abbrev pub frameAt : ℕ → ℕ → Step
 frameAt at b = Frame (at + 1) (at + 1 + b) (record { at = at + 1 + b })
 
--- "It is read by a place that each step takes and hands back." The end is where the place is the length;
--- refusal 14: "reel ends inside a frame, or the place is past its end"
+-- A step takes a place and hands the next one back. Where the place is the length the reel has ended; where it is past that, or the bytes left
+-- are fewer than the length byte says, the step is refused (REFERENCE, "Refusals").
 unfoldable pub stepAt : List ℕ → ℕ → Step
 stepAt reel at =
     cond (ltb (length reel) at) (Refused ReelCut)

@@ -2,6 +2,8 @@ use mathlib.Core.Path.{_∙_}
 use native.Mathlib.Omega.{arith}
 use borrow.Author.Needs.{needs}
 use lib.ListN.{length-set}
+use denote.Ref.{now}
+use Rattle.spans.proofs.Spans.{written-fits}
 use Rattle.book.specs.Edits.{appended}
 use Rattle.book.proofs.append.Statement.{statement}
 use Rattle.book.proofs.append.Tie as tie
@@ -17,7 +19,9 @@ same-length c = c .before .before .put-word2 .kept .0 ∙ c .before .before .bef
 
 returns : tie.Need-returns
 unfolding appended
-returns c = cc
+returns c =
+    let a = c .before .before .before .before .before .before .before .before .before .before .before .before .before .before .before .before .args in
+    cc (written-fits (now (a .b)) (a .e) (now (a .frame)) (omega arith))
 
 pub append-spec : {M : Type 1} → statement M
 append-spec =

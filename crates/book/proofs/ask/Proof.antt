@@ -4,11 +4,11 @@ use native.Mathlib.Omega.{arith}
 use borrow.Author.Needs.{needs}
 use lib.ListN.{drop, length, take}
 use denote.Ref.{now}
-use Rattle.book.specs.Settings.{sizeOf}
+use Rattle.settings.specs.Settings.{sizeOf}
+use Rattle.contents.proofs.Judged.{Bytes}
 use Rattle.book.specs.Book.{ours}
+use Rattle.book.proofs.Known.{held-within}
 use Rattle.book.proofs.Calls.{Holds, holds-reads, opened-holds, tells, turned-away}
-use Rattle.book.proofs.Judged.{Bytes}
-use Rattle.book.proofs.Putting.{held-within}
 use Rattle.book.proofs.Telling.{ask-absent, ask-done, ask-none, ask-short}
 use Rattle.book.proofs.ask.Statement.{statement}
 use Rattle.book.proofs.ask.Tie as tie
@@ -28,11 +28,6 @@ inside c =
 
 returns : tie.Need-returns
 returns c = tells ours _ _ _ _ _ _ (turned-away ours _ _ _ _ _ (c .before .before .ready .ensures) (c .enum-told2 .given .1))
-
-offset-requires : tie.Need-offset-requires
-offset-requires c κs =
-    let s = c .before in
-    (omega (arith, holds-reads ours _ (known s) .small), omega arith)
 
 returns-2 : tie.Need-returns-2
 returns-2 c =
@@ -71,5 +66,5 @@ pub ask-spec : {M : Type 1} → statement M
 ask-spec =
     tie.close
     (tie.spec
-    (search needs) (search needs) (search needs) returns (search needs) offset-requires returns-2 (search needs) (search needs) (search needs)
+    (search needs) (search needs) (search needs) returns (search needs) (search needs) returns-2 (search needs) (search needs) (search needs)
     (search needs) part-write-end (search needs) (search needs) returns-3 returns-4 returns-5)

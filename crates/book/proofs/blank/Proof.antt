@@ -3,8 +3,10 @@ use mathlib.Core.List.{List}
 use Prim.Native.Nat.{ℕ}
 use native.Mathlib.Omega.{arith}
 use borrow.Author.Needs.{needs}
-use lib.ListN.{length-set, set}
-use Rattle.book.specs.Book.{ours, start}
+use lib.ListN.{length, length-set, set}
+use denote.Ref.{now}
+use Rattle.contents.specs.Contents.{layout, start}
+use Rattle.spans.proofs.Spans.{zeroed-fits}
 use Rattle.book.specs.Edits.{setWord}
 use Rattle.book.proofs.Calls.{blank-image}
 use Rattle.book.proofs.blank.Statement.{statement}
@@ -18,8 +20,12 @@ same-length c = c .before .before .put-word .kept .0 ∙ simp length-set (c .bef
 
 returns : tie.Need-returns
 returns c =
-    let b = c .before .before .before .before .before .before .before .before .before .args .b .now in
-    c .before .before .put-word .ensures ∙ ap (λ (x : List ℕ). setWord (set x 0 (ours .version)) 2 (start (ours .slots))) (c .before .before .before .before .before .before .zero .ensures) ∙ blank-image ours b (omega arith)
+    let a = c .before .before .before .before .before .before .before .before .before .args in
+    let b = now (a .b) in
+    c .before .before .put-word .ensures
+    ∙ ap (λ (x : List ℕ). setWord (set x 0 (a .version)) 2 (start (a .slots)))
+    (c .before .before .before .before .before .before .zero .ensures ∙ zeroed-fits b 0 (length b) (omega arith))
+    ∙ blank-image (layout (a .version) (a .slots)) b (omega arith)
 
 pub blank-spec : {M : Type 1} → statement M
-blank-spec = tie.close (tie.spec (search needs) (search needs) put-word-requires same-length returns)
+blank-spec = tie.close (tie.spec (search needs) (search needs) (search needs) (search needs) put-word-requires same-length returns)

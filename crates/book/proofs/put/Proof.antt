@@ -3,12 +3,12 @@ use native.Mathlib.Omega.{arith}
 use borrow.Author.Needs.{needs}
 use denote.Ref.{now}
 use Rattle.book.specs.declared.Answer.the-variants.{Done}
-use Rattle.book.specs.Settings.{slotOf}
+use Rattle.settings.specs.Settings.{slotOf}
+use Rattle.settings.proofs.Settings.{lacks-kind, lacks-own, slotOf-kind, slotOf-none}
+use Rattle.contents.proofs.Judged.{Bytes}
 use Rattle.book.specs.Book.{opened, ours, verdict}
-use Rattle.book.proofs.Settings.{lacks-kind, lacks-own, slotOf-kind, slotOf-none}
-use Rattle.book.proofs.Calls.{Holds, opened-done, opened-holds, permits, turned-away}
-use Rattle.book.proofs.Judged.{Bytes}
 use Rattle.book.proofs.Putting.{put-bad}
+use Rattle.book.proofs.Calls.{Holds, opened-done, opened-holds, permits, turned-away}
 use Rattle.book.proofs.put.Statement.{statement}
 use Rattle.book.proofs.put.Tie as tie
 
@@ -47,15 +47,16 @@ returns-3 c = c .before .before .put-setting .ensures
 
 returns-4 : tie.Need-returns-4
 returns-4 c =
-    let s = c .before in
+    let s = c .before .before in
     let a = s .before .before in
     let e = a .before .before .before in
-    permits ours _ _ _ _ _ _
-    (put-bad ours _ (bytes e) (known e) _ _ (own s) (c .if1 .left) _ (lacks-kind _ _ (a .before .before .decode .ensures) _ (a .answer .given .1)))
+    let k = a .answer .given .1 in
+    let p = permits ours _ _ _ _ _ _ (put-bad ours _ (bytes e) (known e) _ _ (own s) (c .before .if1 .left) _ (lacks-kind _ _ (a .before .before .decode .ensures) _ k)) in
+    (c .declined2 .ensures ∙ p .0, p .1)
 
 pub put-spec : {M : Type 1} → statement M
 put-spec =
     tie.close
     (tie.spec
     (search needs) (search needs) (search needs) (search needs) returns (search needs) (search needs) (search needs) (search needs)
-    (search needs) returns-2 (search needs) put-setting-requires (search needs) returns-3 (search needs) returns-4)
+    (search needs) returns-2 (search needs) put-setting-requires (search needs) returns-3 (search needs) (search needs) returns-4)

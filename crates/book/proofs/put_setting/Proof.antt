@@ -1,10 +1,12 @@
 use native.Mathlib.Omega.{arith}
 use borrow.Author.Needs.{needs}
 use denote.Ref.{now}
+use Rattle.contents.proofs.Judged.{Bytes}
 use Rattle.book.specs.Book.{ours}
+use Rattle.book.proofs.Known.{count-few}
+use Rattle.book.proofs.Known.{count-few}
+use Rattle.book.proofs.Putting.{put-app, put-full, put-over, put-room}
 use Rattle.book.proofs.Calls.{Holds, holds-reads, opened-holds, permits}
-use Rattle.book.proofs.Judged.{Bytes}
-use Rattle.book.proofs.Putting.{count-few, put-app, put-full, put-over, put-room}
 use Rattle.book.proofs.put_setting.Statement.{statement}
 use Rattle.book.proofs.put_setting.Tie as tie
 
@@ -15,16 +17,6 @@ known c = opened-holds ours _ 0 (c .pre .0)
 bytes : (c : tie.After-slice-known) → Bytes (now (c .before .args .book))
 bytes c = λ i. c .slice-known .given i .fits
 
-offset-requires : tie.Need-offset-requires
-offset-requires c κs = (omega (arith, holds-reads ours _ (known (c .before .before .before)) .small), omega arith)
-
-write-requires : tie.Need-write-requires
-write-requires c κs =
-    let w = c .before .before in
-    let s = w .before .before .before in
-    let p = s .before .pre in
-    put-room ours _ (bytes s) (known (s .before)) _ _ (p .1) (p .2) (omega arith) _ (w .offset .ensures .0) (c .before .if1 .taken)
-
 returns : tie.Need-returns
 returns c =
     let i = c .before .before .before .before in
@@ -33,9 +25,6 @@ returns c =
     let p = s .before .pre in
     permits ours _ _ _ _ _ _
     (put-over ours _ (bytes s) (known (s .before)) _ _ (p .1) (p .2) (omega arith) _ (w .offset .ensures .0) _ (i .if1 .taken) (c .before .before .write .ensures))
-
-word-requires : tie.Need-word-requires
-word-requires c κs = omega (arith, holds-reads ours _ (known (c .before .before .before .before .before .before)) .small)
 
 sub-if2 : tie.Need-sub-if2
 sub-if2 c =
@@ -47,7 +36,7 @@ append-requires c κs =
     let s = c .before .before .before .before .before .before .before .before in
     let h = known (s .before) in
     let r = holds-reads ours _ h in
-    (omega (arith, r .low), omega (arith, r .high, r .big), omega (arith, r .big), omega arith, omega (arith, count-few ours _ (bytes s) h))
+    (omega (arith, r .low), omega (arith, r .high, r .big), omega (arith, r .big), omega (arith, count-few ours _ (bytes s) h))
 
 returns-2 : tie.Need-returns-2
 returns-2 c =
@@ -77,5 +66,5 @@ pub put-setting-spec : {M : Type 1} → statement M
 put-setting-spec =
     tie.close
     (tie.spec
-    offset-requires write-requires (search needs) returns word-requires sub-if2 append-requires (search needs) returns-2 (search needs)
+    (search needs) (search needs) (search needs) returns (search needs) sub-if2 append-requires (search needs) returns-2 (search needs)
     returns-3)

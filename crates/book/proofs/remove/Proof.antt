@@ -3,12 +3,13 @@ use Prim.Native.Nat.{ℕ}
 use native.Mathlib.Omega.{arith}
 use borrow.Author.Needs.{needs}
 use denote.Ref.{now}
+use Rattle.contents.proofs.Judged.{Bytes}
 use Rattle.book.specs.Book.{ours}
+use Rattle.book.proofs.Known.{held-within}
+use Rattle.book.proofs.Known.{low-offsets}
+use Rattle.book.proofs.Removing.{remove-absent, remove-done, remove-none, some-held, stands-past}
 use Rattle.book.specs.Edits.{takenOut}
 use Rattle.book.proofs.Calls.{Holds, holds-reads, opened-holds, permits, turned-away}
-use Rattle.book.proofs.Judged.{Bytes}
-use Rattle.book.proofs.Putting.{held-within}
-use Rattle.book.proofs.Removing.{remove-absent, remove-done, remove-none, some-held, stands-past}
 use Rattle.book.proofs.remove.Statement.{statement}
 use Rattle.book.proofs.remove.Tie as tie
 
@@ -22,29 +23,22 @@ bytes c = λ i. c .before .before .before .before .before .slice-known .given i 
 returns : tie.Need-returns
 returns c = permits ours _ _ _ _ _ _ (turned-away ours _ _ _ _ _ (c .before .before .ready .ensures) (c .enum-told2 .given .1))
 
-offset-requires : tie.Need-offset-requires
-offset-requires c κs =
-    let s = c .before .before in
-    (omega (arith, holds-reads ours _ (known s) .small), omega arith)
-
-word-requires : tie.Need-word-requires
-word-requires c κs =
-    let s = c .before .before .before .before .before in
-    omega (arith, holds-reads ours _ (known s) .small)
-
 take-out-requires : tie.Need-take-out-requires
 take-out-requires c κs =
     let i = c .before .before .before .before in
     let o = i .before in
     let t = o .before .before in
     let s = t .before in
-    let r = holds-reads ours _ (known s) in (
-      stands-past ours _ (bytes s) (known s) _ _ (s .slot-for .ensures) (t .if1 .taken) (omega arith) _ (o .offset .ensures .0) (i .if2 .taken),
-      omega (arith, held-within ours _ (bytes s) (known s) _ _ (omega arith) (o .offset .ensures .0) (i .if2 .taken), c .before .before .word .ensures .0, c .before .size-of .ensures .0),
+    let r = holds-reads ours _ (known s) in
+    let past = stands-past ours _ (bytes s) (known s) _ _ (s .slot-for .ensures) (t .if1 .taken) (omega arith) _ (o .offset .ensures .0) (i .if2 .taken) in
+    let in-book = held-within ours _ (bytes s) (known s) _ _ (omega arith) (o .offset .ensures .0) (i .if2 .taken) in (
+      past,
+      omega (arith, past),
+      omega (arith, in-book, c .before .before .word .ensures .0, c .before .size-of .ensures .0),
       omega (arith, r .high),
       omega (arith, r .big),
-      omega arith,
       some-held ours _ (bytes s) (known s) _ _ (s .slot-for .ensures) (t .if1 .taken) (omega arith) _ (o .offset .ensures .0) (i .if2 .taken),
+      low-offsets ours _ (bytes s) (known s),
     )
 
 returns-2 : tie.Need-returns-2
@@ -74,5 +68,5 @@ pub remove-spec : {M : Type 1} → statement M
 remove-spec =
     tie.close
     (tie.spec
-    (search needs) (search needs) (search needs) (search needs) returns (search needs) offset-requires word-requires (search needs)
+    (search needs) (search needs) (search needs) (search needs) returns (search needs) (search needs) (search needs) (search needs)
     take-out-requires (search needs) returns-2 (search needs) returns-3 (search needs) returns-4)

@@ -5,11 +5,11 @@ use native.Mathlib.Omega.{arith}
 use borrow.Author.Needs.{needs}
 use lib.ListN.{length}
 use denote.Ref.{now}
-use Rattle.book.specs.Book.{start}
+use Rattle.settings.specs.Settings.{sizeOf}
+use Rattle.contents.specs.Contents.{start}
+use Rattle.contents.proofs.Steps.{less-zero}
 use Rattle.book.specs.Edits.{Tiles, reelFrom}
-use Rattle.book.proofs.Judged.{tiles-step}
-use Rattle.book.proofs.Steps.{less-zero}
-use Rattle.book.proofs.Telling.{reelFrom-end, reelFrom-step}
+use Rattle.book.proofs.Telling.{reelFrom-end, reelFrom-step, tiles-step}
 use Rattle.book.proofs.write_reel.Statement.{statement}
 use Rattle.book.proofs.write_reel.Tie as tie
 
@@ -23,29 +23,34 @@ loop-holds : tie.Need-loop-holds Inv-loop μ-loop
 loop-holds c =
     let s = c .before .before in
     let e : s .args .c ≡ s .args .c - 0 = omega arith in
-    (omega arith, omega arith, refl, omega arith, rw (← less-zero), subst (λ (k : ℕ). Tiles (s .args .slots) k (s .args .b .now) (start (s .args .slots)) (s .args .e)) e (s .pre .4))
+    (omega arith, omega arith, refl, omega arith, rw (← less-zero), subst (λ (k : ℕ). Tiles (s .args .slots) k (s .args .b .now) (start (s .args .slots)) (s .args .e)) e (s .pre .3))
 
 write-frame-requires : tie.Need-write-frame-requires Inv-loop μ-loop
 write-frame-requires c κs =
-    let l = c .before .before .before .loop in
-    let a = c .before .before .before .before .before .before .args in
-    let k = c .before .kept-len in
-    let o = tiles-step (a .slots) (a .c) (l .i) (now (a .b)) (l .p) (a .e) (k .result) (c .before .before .loop-test .taken) (k .ensures .0) (l .inv .5) in
+    let l = c .before .before .before .before .loop in
+    let a = c .before .before .before .before .before .before .before .args in
+    let z = c .before .size-of in
+    let o = tiles-step (a .slots) (a .c) (l .i) (now (a .b)) (l .p) (a .e) (z .result) (c .before .before .before .loop-test .taken) (omega arith)
+    (z .ensures .0 ∙ ap sizeOf (c .before .before .slot-at .ensures .0)) (l .inv .5) in
     (omega (arith, o .ends), omega (arith, o .ends), omega arith)
 
 loop-again : tie.Need-loop-again Inv-loop μ-loop
 loop-again c =
-    let at = c .before .before .before .before .before .before in
-    let a = c .before .before .before .before .before .before .before .before .before .args in
-    let n = c .before .before .before .before .kept-len .result in
-    let o = tiles-step (a .slots) (a .c) (at .loop .i) (now (a .b)) (at .loop .p) (a .e) n (c .before .before .before .before .before .loop-test .taken) (c .before .before .before .before .kept-len .ensures .0) (at .loop .inv .5) in (
+    let z = c .before .before .before .before in
+    let t = z .before .before in
+    let at = t .before in
+    let a = at .before .before .before .args in
+    let n = z .size-of .result in
+    let o = tiles-step (a .slots) (a .c) (at .loop .i) (now (a .b)) (at .loop .p) (a .e) n (t .loop-test .taken) (omega arith)
+    (z .size-of .ensures .0 ∙ ap sizeOf (z .before .slot-at .ensures .0)) (at .loop .inv .5) in (
       omega arith,
       o .ends,
       c .before .before .write-frame .kept .1 .1 .1 .0 ∙ at .loop .inv .2,
       omega (arith, o .ends),
       at .loop .inv .4
-          ∙ reelFrom-step (a .slots) (a .c) (now (a .b)) (at .loop .p) (a .e) (at .loop .w) (at .loop .i) n (at .loop .out) (c .before .before .before .before .before .loop-test .taken) (o .same)
-          ∙ ap (λ (x : List ℕ). reelFrom (a .slots) (a .c - (at .loop .i + 1)) (now (a .b)) (at .loop .p + n) (a .e) (at .loop .w + 1 + n) x) (sym (c .before .before .write-frame .ensures)),
+          ∙ reelFrom-step (a .slots) (a .c) (now (a .b)) (at .loop .p) (a .e) (at .loop .w) (at .loop .i) n (at .loop .out) (t .loop-test .taken) (o .same)
+          ∙ ap (λ (x : List ℕ). reelFrom (a .slots) (a .c - (at .loop .i + 1)) (now (a .b)) (at .loop .p + n) (a .e) (at .loop .w + 1 + n) x)
+          (sym (c .before .before .write-frame .ensures)),
       o .rest,
     )
 
@@ -59,5 +64,5 @@ pub write-reel-spec : {M : Type 1} → statement M
 write-reel-spec =
     tie.close
     (tie.spec
-    Inv-loop μ-loop (search needs) (search needs) loop-holds (search needs) write-frame-requires (search needs) (search needs) (search needs)
+    Inv-loop μ-loop (search needs) (search needs) loop-holds (search needs) (search needs) write-frame-requires (search needs) (search needs) (search needs)
     (search needs) (search needs) loop-again same-length returns)

@@ -1,0 +1,52 @@
+use mathlib.Core.Path.{ap, refl, subst, sym, _∙_, _≡_}
+use mathlib.Core.List.{List}
+use Prim.Native.Nat.{ℕ, _*_, _+_, _-_, _<_, _≤_}
+use native.Mathlib.Nat.{le-refl}
+use native.Mathlib.Omega.{arith}
+use borrow.Author.Needs.{needs}
+use lib.ListN.{length}
+use Rattle.contents.specs.Contents.{longest, offsetAt}
+use Rattle.contents.proofs.Steps.{less-zero}
+use Rattle.book.proofs.Parts.{offset-others, remap-end, remap-step}
+use Rattle.book.specs.Edits.{Low, remap, setWord, shiftedAt}
+use Rattle.book.proofs.shift_offsets.Statement.{statement}
+use Rattle.book.proofs.shift_offsets.Tie as tie
+
+-- the offsets still to come are bounded as all were
+abbrev Inv-loop : tie.InvT-loop
+Inv-loop b₀ m at old new k₀ b k =
+    (k ≤ m) × (length b ≡ length b₀) × (remap (shiftedAt at old new) m b₀ 0 ≡ remap (shiftedAt at old new) (m - k) b k)
+    × ((j : ℕ) → k ≤ j → j < m → offsetAt b j ≤ longest)
+
+abbrev μ-loop : tie.MeasureT-loop
+μ-loop b₀ m at old new k₀ b k = m - k
+
+loop-holds : tie.Need-loop-holds Inv-loop μ-loop
+loop-holds c = (omega arith, refl, rw (← less-zero), λ j x y. c .before .pre .3 .low j y)
+
+shifted-requires : tie.Need-shifted-requires Inv-loop μ-loop
+shifted-requires c κs =
+    let L = c .before .before .before .before in
+    (omega arith, omega (arith, c .before .offset .ensures .0, L .loop .inv .3 (L .loop .s) (le-refl (L .loop .s)) (c .before .before .before .loop-test .taken)), omega arith)
+
+loop-again : tie.Need-loop-again Inv-loop μ-loop
+loop-again c =
+    let at = c .before .before .before .before .before .before .before .before in
+    let a = c .before .before .before .before .before .before .before .before .before .before .args in (
+      omega arith,
+      c .before .before .put-word .kept .0 ∙ at .loop .inv .1,
+      cc (remap-step (a .slots) (shiftedAt (a .at) (a .old) (a .new)) (at .loop .b) (at .loop .s) (c .before .before .before .before .before .before .before .loop-test .taken)),
+      λ j x y.
+          let e : offsetAt (c .before .before .put-word .last .0) j ≡ offsetAt (at .loop .b) j = ap (λ (l : List ℕ). offsetAt l j) (c .before .before .put-word .ensures) ∙ offset-others _ _ _ _ (omega arith) in
+          omega (arith, e, at .loop .inv .3 j (omega arith) y),
+    )
+
+returns : tie.Need-returns Inv-loop μ-loop
+returns c = sym (c .before .loop .inv .2 ∙ remap-end _ _ _ _ (c .loop-test .left))
+
+pub shift-offsets-spec : {M : Type 1} → statement M
+shift-offsets-spec =
+    tie.close
+    (tie.spec
+    Inv-loop μ-loop loop-holds (search needs) (search needs) (search needs) shifted-requires (search needs) (search needs) (search needs)
+    loop-again (search needs) returns)

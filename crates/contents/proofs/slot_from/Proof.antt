@@ -1,0 +1,35 @@
+use mathlib.Core.Path.{ap, sym, _∙_, _≡_}
+use Prim.Native.Nat.{ℕ, _-_, _≤_}
+use native.Mathlib.Omega.{arith}
+use borrow.Author.Needs.{needs}
+use Rattle.contents.specs.Contents.{slotFrom}
+use Rattle.contents.proofs.Steps.{less-zero, slotFrom-end, slotFrom-found, slotFrom-pass}
+use Rattle.contents.proofs.slot_from.Statement.{statement}
+use Rattle.contents.proofs.slot_from.Tie as tie
+
+abbrev Inv-loop : tie.InvT-loop
+Inv-loop b m p k₀ k = (k ≤ m) × (slotFrom m b p 0 ≡ slotFrom (m - k) b p k)
+
+abbrev μ-loop : tie.MeasureT-loop
+μ-loop b m p k₀ k = m - k
+
+loop-holds : tie.Need-loop-holds Inv-loop μ-loop
+loop-holds c = (omega arith, ap (λ (x : ℕ). slotFrom x (c .before .args .b .now) (c .before .args .p) 0) (less-zero _))
+
+returns : tie.Need-returns Inv-loop μ-loop
+returns c =
+    let at = c .before .before .before in
+    (sym (at .loop .inv .1 ∙ slotFrom-found _ _ _ _ (c .before .before .loop-test .taken) (sym (c .before .offset-in .ensures .0) ∙ c .if1 .taken)), omega arith)
+
+loop-again : tie.Need-loop-again Inv-loop μ-loop
+loop-again c =
+    let at = c .before .before .before in
+    (omega arith, at .loop .inv .1 ∙ slotFrom-pass _ _ _ _ (c .before .before .loop-test .taken) (λ e. c .if1 .left (c .before .offset-in .ensures .0 ∙ e)))
+
+returns-2 : tie.Need-returns-2 Inv-loop μ-loop
+returns-2 c =
+    let four : c .before .loop .s ≡ c .before .before .before .args .slots = omega arith in
+    (sym (c .before .loop .inv .1 ∙ slotFrom-end _ _ _ _ (c .loop-test .left) ∙ four), omega arith)
+
+pub slot-from-spec : {M : Type 1} → statement M
+slot-from-spec = tie.close (tie.spec Inv-loop μ-loop loop-holds (search needs) returns (search needs) (search needs) loop-again returns-2)

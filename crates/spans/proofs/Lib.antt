@@ -1,0 +1,3 @@
+pub mod Pastes
+pub mod Spans
+pub mod Outcome
