@@ -1,10 +1,11 @@
--- How many arguments the decoder hands over: at most nine, and no more than its array has.
+-- What the decoder hands over: at most nine arguments and no more than its array has, and the line that the frame prints as.
 -- Assumes nothing.
-use mathlib.Core.Path.{_≡_, refl, sym, ap, _∙_}
+use mathlib.Core.Path.{_≡_, ap, _∙_}
 use mathlib.Core.List.{List, []}
 use Prim.Native.Nat.{ℕ, _+_, _-_, _≤_}
 use native.Mathlib.Omega.{arith}
-use lib.ListN.{length, getD, drop, replicate, length-append, length-take}
+use lib.ListN.{length, getD, take, drop, replicate, length-append, length-take}
+use Rattle.refusal.specs.declared.Refusal.{Refusal}
 use Rattle.table.specs.Table.{rows, countOf, numbersOf}
 use Rattle.decoder.specs.declared.Answer.the-variants.{Kind, Refused}
 use Rattle.decoder.specs.declared.Decoded.{Decoded}
@@ -12,6 +13,8 @@ use Rattle.table.specs.Narrowed.{Ready}
 use Rattle.decoder.specs.Decoding.{Reading, reading, refuses, decode, decoded}
 use Rattle.table.proofs.Rows.{ready}
 use Rattle.codec.proofs.Accepted.{Inside, inside, Read, decode-read}
+use Rattle.codec.proofs.Handed.{decoded-reading, decoded-refuses}
+use Rattle.dump_text.specs.Text.{lineOf}
 
 pub decode-few : (f : List ℕ) (k : ℕ) (vs : List ℕ) → decode f ≡ reading k vs → length vs ≤ 9
 decode-few f k vs e =
@@ -21,19 +24,21 @@ decode-few f k vs e =
     let z : Ready r = ready (d .at) (d .row) in
     omega (arith, n .long, z .few, length-take (countOf r) (drop 4 r))
 
--- what is handed over of a frame that has a kind
-pub record Few (d : Decoded) : Type 0 where
-  pub nine : d .count ≤ 9
-  pub held : d .count ≤ length (d .args)
-
-pub handed-few : (f : List ℕ) (d : Decoded) (k : ℕ) → d ≡ decoded (decode f) → d .answer ≡ Kind k → Few d
+-- no more arguments than the array has
+pub handed-held : (x : Reading) (d : Decoded) → d ≡ decoded x → d .count ≤ length (d .args)
 unfolding decoded
-handed-few f d k e a = by (decode f) refl e
-  where
-    by : (x : Reading) → decode f ≡ x → d ≡ decoded x → Few d
-    by (refuses why) p q = absurd (let z : Refused why ≡ Kind k = sym (ap (λ (y : Decoded). y .answer) q) ∙ a in let w : _≡_ {A = ℕ} 0 1 = cc in omega arith)
-    by (reading j vs) p q =
-        let n : d .count ≡ length vs = ap (λ (y : Decoded). y .count) q in
-        let zeros : List ℕ = replicate (9 - length vs) 0 in
-        let l : length (d .args) ≡ length vs + length zeros = ap (λ (y : Decoded). length (y .args)) q ∙ length-append vs zeros in
-        record { nine = omega (arith, decode-few f j vs p); held = omega arith }
+handed-held (refuses why) d e = omega (arith, ap (λ (y : Decoded). y .count) e)
+handed-held (reading k vs) d e =
+    let zeros : List ℕ = replicate (9 - length vs) 0 in
+    let l : length (d .args) ≡ length vs + length zeros = ap (λ (y : Decoded). length (y .args)) e ∙ length-append vs zeros in
+    omega (arith, ap (λ (y : Decoded). y .count) e)
+
+-- the line of the frame, by what is handed over
+module _ (f : List ℕ) (d : Decoded) (e : d ≡ decoded (decode f)) (index : ℕ) where
+  pub handed-kind : (k : ℕ) → d .answer ≡ Kind k → lineOf index (decode f) ≡ lineOf index (reading k (take (d .count - 0) (d .args)))
+  handed-kind k a =
+      let all : d .count ≡ d .count - 0 = omega arith in
+      ap (lineOf index) (decoded-reading _ _ _ e a) ∙ ap (λ (n : ℕ). lineOf index (reading k (take n (d .args)))) all
+
+  pub handed-refusal : (why : Refusal) → d .answer ≡ Refused why → lineOf index (decode f) ≡ lineOf index (refuses why)
+  handed-refusal why a = ap (lineOf index) (decoded-refuses _ _ _ e a)

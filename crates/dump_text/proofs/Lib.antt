@@ -1,5 +1,6 @@
 pub mod Writing
 pub mod Arguments
+pub mod Longest
 pub mod Passing
 pub mod Parts
 pub mod Whole

@@ -78,7 +78,8 @@ module _ (more : Bool) (q : List ℕ) (last : more ≡ false → q ≡ []) where
   tells-frames [] (b ∷ rest) e room index = tells-rest room index b rest e
   tells-frames (f ∷ fs) rest e room index = by (goesOn room index) refl (tells-frames fs rest e)
     where
-      by : (g : Bool) → goesOn room index ≡ g → ((room index : ℕ) → Tells index (reelOf fs ++ (rest ++ q)) (linesFrom more room index fs rest)) → Tells index (reelOf (f ∷ fs) ++ (rest ++ q)) (linesFrom more room index (f ∷ fs) rest)
+      by : (g : Bool) → goesOn room index ≡ g → ((room index : ℕ) → Tells index (reelOf fs ++ (rest ++ q)) (linesFrom more room index fs rest))
+          → Tells index (reelOf (f ∷ fs) ++ (rest ++ q)) (linesFrom more room index (f ∷ fs) rest)
       by false y ih = rw (lines-stop more room index (f ∷ fs) rest y) refl
       by true y ih = rw (lines-line more room index f fs rest y) (tells-line index f fs (rest ++ q) _ (ih _ (suc index)))
 
@@ -86,7 +87,9 @@ module _ (more : Bool) (q : List ℕ) (last : more ≡ false → q ≡ []) where
   pub part-text : (room index : ℕ) (p : List ℕ) → Tells index (p ++ q) (linesOf more room index (unreel p))
   part-text room index p =
       let u : Unreeled = unreel p in
-      let e : reelOf (u .frames) ++ (u .rest ++ q) ≡ p ++ q = sym (append-assoc (reelOf (u .frames)) (u .rest) q) ∙ ap (λ (s : List ℕ). s ++ q) (reel-again p) in
+      let e : reelOf (u .frames) ++ (u .rest ++ q) ≡ p ++ q =
+      sym (append-assoc (reelOf (u .frames)) (u .rest) q) ∙ ap (λ (s : List ℕ). s ++ q) (reel-again p)
+      in
       rw e at (tells-frames (u .frames) (u .rest) (unreel-rest p) room index)
 
 -- Fed index reel text: passes that begin at the index and use the reel up write the text. Each takes any part of what is left, with any room;
@@ -106,7 +109,8 @@ pub dump-text : (reel text : List ℕ) → Fed 0 reel text → text ≡ textOf r
 dump-text reel text f = fed-text f
 
 -- a pass goes on
-pub part-goes : (more : Bool) (room index b : ℕ) (s : List ℕ) → goesOn room index ≡ true → (more ≡ true → b ≤ length s) → 0 < linesOf more room index (unreel (b ∷ s)) .used
+pub part-goes : (more : Bool) (room index b : ℕ) (s : List ℕ) → goesOn room index ≡ true → (more ≡ true → b ≤ length s)
+    → 0 < linesOf more room index (unreel (b ∷ s)) .used
 part-goes more room index b s g h = by (leb b (length s)) refl more refl
   where
     by : (t : Bool) → leb b (length s) ≡ t → (m : Bool) → more ≡ m → 0 < linesOf more room index (unreel (b ∷ s)) .used

@@ -1,7 +1,7 @@
 -- How a pass goes on: what is done and what is left to do make up what is to be done (`Going`). A line keeps that (`going-frame`, `going-cut`),
 -- and where nothing is left to do the pass is done (`going-done`).
 -- Assumes nothing.
-use mathlib.Core.Path.{_≡_, refl, sym, ap, ap₂, _∙_}
+use mathlib.Core.Path.{_≡_, refl, sym, ap, ap₂, _∙_, subst}
 use mathlib.Core.Bool.{Bool, true, false, cond, _&&_}
 use mathlib.Core.List.{List, [], _∷_, _++_}
 use Prim.Native.Nat.{ℕ, suc, _+_, _-_, _^_, _≤_, _<_}
@@ -19,8 +19,9 @@ use Rattle.reel.specs.Reel.{Unreeled, unreel}
 use Rattle.reel.proofs.Reels.{unreel-nil}
 use Rattle.reel.proofs.Found.{Whole, Ended, Cut}
 use Rattle.dump_text.specs.Text.{lineOf}
-use Rattle.dump_text.specs.Parts.{Lines, none, line, goesOn, linesFrom, linesOf, Puts, Passes}
+use Rattle.dump_text.specs.Parts.{Lines, none, line, longest, goesOn, linesFrom, linesOf, Puts, Passes}
 use Rattle.dump_text.proofs.Writing.{sets-append, puts-length}
+use Rattle.dump_text.proofs.Longest.{line-longest, refusal-longest}
 
 -- ---- what is left to do, by what comes next
 
@@ -32,7 +33,8 @@ module _ (more : Bool) (room index : ℕ) where
   lines-stop (f ∷ fs) rest e = rw e refl
 
   pub lines-line : (f : List ℕ) (fs : List (List ℕ)) (rest : List ℕ) → goesOn room index ≡ true
-      → linesFrom more room index (f ∷ fs) rest ≡ line (suc (length f)) (lineOf index (decode f)) (linesFrom more (room - length (lineOf index (decode f))) (suc index) fs rest)
+      → linesFrom more room index (f ∷ fs) rest
+      ≡ line (suc (length f)) (lineOf index (decode f)) (linesFrom more (room - length (lineOf index (decode f))) (suc index) fs rest)
   unfolding linesFrom
   lines-line f fs rest e = rw e refl
 
@@ -51,16 +53,24 @@ module _ (more : Bool) (room index : ℕ) where
 
 -- what the test for going on shows
 pub record Room (room index : ℕ) : Type 0 where
-  pub wide : 273 ≤ room
+  pub wide : longest ≤ room
   pub below : index < 2 ^ 64 - 1
 
 pub goes-room : (room index : ℕ) → goesOn room index ≡ true → Room room index
-goes-room room index e = by (leb 273 room) (ltb index (2 ^ 64 - 1)) refl refl e
+goes-room room index e = by (leb longest room) (ltb index (2 ^ 64 - 1)) refl refl e
   where
-    by : (x y : Bool) → leb 273 room ≡ x → ltb index (2 ^ 64 - 1) ≡ y → (x && y) ≡ true → Room room index
-    by true true p q e = record { wide = leb-true 273 room p; below = ltb-true index (2 ^ 64 - 1) q }
+    by : (x y : Bool) → leb longest room ≡ x → ltb index (2 ^ 64 - 1) ≡ y → (x && y) ≡ true → Room room index
+    by true true p q e = record { wide = leb-true longest room p; below = ltb-true index (2 ^ 64 - 1) q }
     by true false p q e = absurd (let w : _≡_ {A = ℕ} 0 1 = cc in omega arith)
     by false y p q e = absurd (let w : _≡_ {A = ℕ} 0 1 = cc in omega arith)
+
+-- room for a line is room for that of any frame, and for any refusal
+module _ (room n written next : ℕ) (w : Room (room - written) next) (e : n ≡ room) where
+  pub room-frame : (f : List ℕ) → written + length (lineOf next (decode f)) ≤ n
+  room-frame f = omega (arith, w .wide, line-longest next f)
+
+  pub room-refusal : (why : Refusal) → written + length (lineOf next (refuses why)) ≤ n
+  room-refusal why = omega (arith, w .wide, refusal-longest next why)
 
 pub lines-end : (more : Bool) (room index : ℕ) → linesFrom more room index [] [] ≡ none index
 unfolding linesFrom
@@ -121,7 +131,7 @@ module _ (more : Bool) (index : ℕ) (input out₀ : List ℕ) where
 
   module _ (used written next : ℕ) (out : List ℕ) (to : ℕ) (out₁ : List ℕ) (g : Going used written next out) (k : to ≤ length out₀) where
     pub going-frame : (start end : ℕ) (after : Cursor) → goesOn (length out₀ - written) next ≡ true → Whole input used start end after
-        → Puts (lineOf next (decode (take (end - start) (drop start input)))) written out to out₁ → Going end to (next + 1) out₁
+        → Puts (lineOf next (decode (take (end - start) (drop start input)))) written out to out₁ → Going (after .at) to (next + 1) out₁
     going-frame start end after t w p =
         let f : List ℕ = take (end - start) (drop start input) in
         let text : List ℕ = lineOf next (decode f) in
@@ -134,7 +144,8 @@ module _ (more : Bool) (index : ℕ) (input out₀ : List ℕ) where
         ∙ lines-line more (length out₀ - written) next f (u .frames) (u .rest) t
         ∙ ap₂ (λ (m i : ℕ). line (suc (length f)) text (linesFrom more m i (u .frames) (u .rest))) room (sym (add-one next))
         in
-        going-line used written next (suc (length f)) end out text to out₁ n g e (w .inside) k p
+        subst (λ (at : ℕ). Going at to (next + 1) out₁) (sym (w .onward))
+        (going-line used written next (suc (length f)) end out text to out₁ n g e (w .inside) k p)
 
     pub going-cut : (why : Refusal) → goesOn (length out₀ - written) next ≡ true → more ≡ false → Cut input used why
         → Puts (lineOf next (refuses why)) written out to out₁ → Going (length input) to (next + 1) out₁
@@ -187,7 +198,8 @@ module _ (more : Bool) (index : ℕ) (input out₀ : List ℕ) where
         (ap (linesOf more (length out₀ - written) next) (w .made)
         ∙ lines-more more (length out₀ - written) next (getD input used 0) (drop (used + 1) input) m)
 
-  pub done-whole : (written next : ℕ) (out : List ℕ) → Going (length input) written next out → Passes whole out₀ (record { used = length input; written = written; next = next }) out
+  pub done-whole : (written next : ℕ) (out : List ℕ) → Going (length input) written next out
+      → Passes whole out₀ (record { used = length input; written = written; next = next }) out
   done-whole written next out g =
       done-end (length input) written next out g
       (record { here = refl; made = ap unreel (drop-of-length-le input {i = length input} (omega arith)) ∙ unreel-nil })

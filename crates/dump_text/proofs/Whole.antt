@@ -5,7 +5,7 @@ use mathlib.Core.Bool.{Bool, true, false, cond, _&&_, not}
 use mathlib.Core.List.{List, [], _∷_, _++_, append-nil, append-assoc}
 use Prim.Native.Nat.{ℕ, suc, _+_, _-_, _^_, _≤_, _<_}
 use native.Mathlib.Omega.{arith}
-use lib.Dec.{T, leb, ltb}
+use lib.Dec.{T, leb}
 use lib.ListN.{length, take, drop, getD, length-append, length-drop, drop-of-length-le}
 use lib.Seq.{drop-cons, drop-drop, drop-append-seam, drop-at, length-take-le, take-append-seam, take-add, take-all, take-at, take-length}
 use borrow.Author.Tests.{lt-ltb, le-leb, lt-leb}
@@ -23,7 +23,8 @@ pub no-write : {A : Type 0} → false ≡ true → A
 no-write e = absurd (subst T (sym e) tt)
 
 -- every line stands for a byte at least
-pub next-used : (more : Bool) (room index : ℕ) (fs : List (List ℕ)) (rest : List ℕ) → linesFrom more room index fs rest .next ≤ index + linesFrom more room index fs rest .used
+pub next-used : (more : Bool) (room index : ℕ) (fs : List (List ℕ)) (rest : List ℕ)
+    → linesFrom more room index fs rest .next ≤ index + linesFrom more room index fs rest .used
 unfolding linesFrom
 next-used more room index [] [] = omega arith
 next-used more room index [] (b ∷ rest) = by (goesOn room index && not more)
@@ -62,7 +63,8 @@ pub laid-is : (part out last : List ℕ) (at : ℕ) → last ≡ take (length pa
 laid-is part out last at e =
     let n : ℕ = length part in
     let gone : drop (length out - at) (drop at out) ≡ [] = drop-of-length-le (drop at out) {i = length out - at} (omega (arith, length-drop at out)) in
-    ap₂ (λ (x y : List ℕ). take at out ++ (x ++ y)) (e ∙ ap₂ (λ (x y : List ℕ). x ++ y) (take-length part) (ap (drop n) (tail at out) ∙ drop-drop n at out)) gone
+    ap₂ (λ (x y : List ℕ). take at out ++ (x ++ y))
+    (e ∙ ap₂ (λ (x y : List ℕ). x ++ y) (take-length part) (ap (drop n) (tail at out) ∙ drop-drop n at out)) gone
     ∙ ap (λ (x : List ℕ). take at out ++ x) (append-nil (part ++ drop (at + n) out))
 
 pub both : (b : Bool) (l : List ℕ) → l ≡ cond b l l
@@ -90,13 +92,18 @@ module _ (reel : List ℕ) (at index used : ℕ) (z : Reached reel at index used
 
   pub reached-room : at + length (l .text) ≤ length (textOf reel)
   reached-room =
-      let e : length (textOf reel) - at ≡ length (l .text) + length (textAt (l .next) (drop (used + l .used) reel)) = sym (length-drop at (textOf reel)) ∙ ap length split ∙ length-append (l .text) (textAt (l .next) (drop (used + l .used) reel)) in
+      let rest : List ℕ = textAt (l .next) (drop (used + l .used) reel) in
+      let long : length (drop at (textOf reel)) ≡ length (l .text) + length rest = ap length split ∙ length-append (l .text) rest in
+      let e : length (textOf reel) - at ≡ length (l .text) + length rest = sym (length-drop at (textOf reel)) ∙ long in
       omega (arith, z .within)
 
   pub reached-on : used + l .used ≤ length reel → Reached reel (at + length (l .text)) (l .next) (used + l .used)
   reached-on h =
       record {
-        left = sym (drop-drop (length (l .text)) at (textOf reel)) ∙ ap (drop (length (l .text))) split ∙ drop-append-seam (l .text) (textAt (l .next) (drop (used + l .used) reel));
+        left =
+            sym (drop-drop (length (l .text)) at (textOf reel))
+            ∙ ap (drop (length (l .text))) split
+            ∙ drop-append-seam (l .text) (textAt (l .next) (drop (used + l .used) reel));
         within = reached-room;
         few = omega (arith, z .few, next-used false 512 index (unreel (drop used reel) .frames) (unreel (drop used reel) .rest));
         inside = h;
@@ -105,15 +112,28 @@ module _ (reel : List ℕ) (at index used : ℕ) (z : Reached reel at index used
   pub reached-text : take (at + length (l .text)) (textOf reel) ≡ take at (textOf reel) ++ l .text
   reached-text =
       take-add at (length (l .text)) (textOf reel)
-      ∙ ap (λ (s : List ℕ). take at (textOf reel) ++ s) (ap (take (length (l .text))) split ∙ take-append-seam (l .text) (textAt (l .next) (drop (used + l .used) reel)))
+      ∙ ap (λ (s : List ℕ). take at (textOf reel) ++ s)
+      (ap (take (length (l .text))) split ∙ take-append-seam (l .text) (textAt (l .next) (drop (used + l .used) reel)))
 
   pub reached-goes : used < length reel → length reel < 2 ^ 63 → 0 < l .used
   reached-goes h k =
       let i : index < 2 ^ 64 - 1 = omega (arith, z .few) in
       let g : goesOn 512 index ≡ true = lt-ltb index (2 ^ 64 - 1) i in
-      subst (λ (s : List ℕ). 0 < linesOf false 512 index (unreel s) .used) (sym (drop-cons reel used 0 h)) (part-goes false 512 index (getD reel used 0) (drop (suc used) reel) g no-write)
+      subst (λ (s : List ℕ). 0 < linesOf false 512 index (unreel s) .used) (sym (drop-cons reel used 0 h))
+      (part-goes false 512 index (getD reel used 0) (drop (suc used) reel) g no-write)
 
 -- ---- what a pass over the rest of the reel makes of it
+
+-- As a pass over the rest of the reel told it, with its lines in `after`: how far the text has come, that some of the reel was used, how its
+-- lines join what stands in an output, and that an output too short for them is one that was not to be written.
+pub record Stepped (reel : List ℕ) (at index used : ℕ) (p : Passed) (after : List ℕ) : Type 0 where
+  pub on : Reached reel (at + p .written) (p .next) (used + p .used)
+  pub goes : used < length reel → length reel < 2 ^ 63 → 0 < p .used
+  pub far : (write : Bool) (first out last : List ℕ) → out ≡ cond write (soFar (textOf reel) at first) first
+      → last ≡ cond write (laidAt (take (p .written - 0) after) at out) out → last ≡ cond write (soFar (textOf reel) (at + p .written) first) first
+  pub out : (write : Bool) (first now : List ℕ) → (write ≡ true → length (textOf reel) ≤ length first) → length now ≡ length first
+      → at ≤ length now → length now - at < p .written → now ≡ cond write (soFar (textOf reel) at first) first
+      → Lays (textOf reel) write first (at + p .written) now
 
 module _ (reel : List ℕ) (at index used : ℕ) (z : Reached reel at index used) (room : ℕ) (input before after : List ℕ) (p : Passed)
     (er : room ≡ 512) (ei : input ≡ drop used reel) (ps : Passes (linesOf false room index (unreel input)) before p after) (most : p .used ≤ length input) where
@@ -126,22 +146,23 @@ module _ (reel : List ℕ) (at index used : ℕ) (z : Reached reel at index used
   told : p ≡ record { used = m .used; written = length (m .text); next = m .next }
   told = ps .told ∙ ap (λ (x : Lines). record { used = x .used; written = length (x .text); next = x .next }) lines
 
-  pub step-room : at + p .written ≤ length (textOf reel)
+  step-room : at + p .written ≤ length (textOf reel)
   step-room = subst (λ (x : Passed). at + x .written ≤ length (textOf reel)) (sym told) (reached-room reel at index used z)
 
-  pub step-on : Reached reel (at + p .written) (p .next) (used + p .used)
+  step-on : Reached reel (at + p .written) (p .next) (used + p .used)
   step-on =
       let k : p .used ≤ length reel - used = subst (λ (n : ℕ). p .used ≤ n) (ap length ei ∙ length-drop used reel) most in
       let h : used + m .used ≤ length reel = subst (λ (x : Passed). used + x .used ≤ length reel) told (omega (arith, z .inside)) in
       subst (λ (x : Passed). Reached reel (at + x .written) (x .next) (used + x .used)) (sym told) (reached-on reel at index used z h)
 
-  pub step-goes : used < length reel → length reel < 2 ^ 63 → 0 < p .used
+  step-goes : used < length reel → length reel < 2 ^ 63 → 0 < p .used
   step-goes h k = subst (λ (x : Passed). 0 < x .used) (sym told) (reached-goes reel at index used z h k)
 
   part : take (p .written - 0) after ≡ m .text
   part =
       let n : p .written - 0 ≡ length (m .text) = ap (λ (x : Passed). x .written - 0) told ∙ omega arith in
-      ap₂ take n (ps .stands ∙ ap (λ (x : Lines). x .text ++ drop (length (x .text)) before) lines) ∙ take-append-seam (m .text) (drop (length (m .text)) before)
+      ap₂ take n (ps .stands ∙ ap (λ (x : Lines). x .text ++ drop (length (x .text)) before) lines)
+      ∙ take-append-seam (m .text) (drop (length (m .text)) before)
 
   far-true : (out : List ℕ) → laidAt (take (p .written - 0) after) at (soFar (textOf reel) at out) ≡ soFar (textOf reel) (at + p .written) out
   far-true out =
@@ -156,16 +177,20 @@ module _ (reel : List ℕ) (at index used : ℕ) (z : Reached reel at index used
       ∙ ap (λ (x : List ℕ). x ++ drop (at + n) out) (sym (reached-text reel at index used z))
       ∙ ap (λ (k : ℕ). soFar t k out) w
 
-  pub step-far : (write : Bool) (first out last : List ℕ) → out ≡ cond write (soFar (textOf reel) at first) first → last ≡ cond write (laidAt (take (p .written - 0) after) at out) out
-      → last ≡ cond write (soFar (textOf reel) (at + p .written) first) first
+  step-far : (write : Bool) (first out last : List ℕ) → out ≡ cond write (soFar (textOf reel) at first) first
+      → last ≡ cond write (laidAt (take (p .written - 0) after) at out) out → last ≡ cond write (soFar (textOf reel) (at + p .written) first) first
   step-far true first out last e f = f ∙ ap (laidAt (take (p .written - 0) after) at) e ∙ far-true first
   step-far false first out last e f = f ∙ e
 
   -- a text that was to be written has room
-  pub step-out : (write : Bool) (first out : List ℕ) → (write ≡ true → length (textOf reel) ≤ length first) → length out ≡ length first → at ≤ length out → length out - at < p .written
-      → out ≡ cond write (soFar (textOf reel) at first) first → Lays (textOf reel) write first (at + p .written) out
+  step-out : (write : Bool) (first out : List ℕ) → (write ≡ true → length (textOf reel) ≤ length first) → length out ≡ length first
+      → at ≤ length out → length out - at < p .written → out ≡ cond write (soFar (textOf reel) at first) first
+      → Lays (textOf reel) write first (at + p .written) out
   step-out true first out h n l o e = absurd (omega (arith, h refl, step-room))
   step-out false first out h n l o e = record { fits = λ k. absurd (omega arith); longer = λ k. omega (arith, step-room); stands = e }
+
+  pub stepped : Stepped reel at index used p after
+  stepped = record { on = step-on; goes = step-goes; far = step-far; out = step-out }
 
 pub laid-all : (reel : List ℕ) (at index used : ℕ) → Reached reel at index used → length reel ≤ used → (write : Bool) (first out : List ℕ)
     → out ≡ cond write (soFar (textOf reel) at first) first → Lays (textOf reel) write first at out

@@ -6,14 +6,14 @@ use mathlib.Core.List.{List, [], _∷_, _++_, append-assoc, append-nil}
 use Prim.Native.Nat.{ℕ, suc, _+_, _/_, _≤_, _<_, _^_}
 use native.Mathlib.Omega.{arith}
 use native.Mathlib.Numerals.{add-one}
-use lib.ListN.{length, set, take, getD, length-append}
-use lib.Seq.{sets, length-sets, take-suc}
+use lib.ListN.{length, set, take, drop, getD, length-append}
+use lib.Seq.{sets, length-sets, take-suc, split-at}
 use Rattle.refusal.specs.declared.Refusal.{Refusal}
 use Rattle.refusal.specs.Numbers.{numberOf, placeOf}
 use Rattle.decoder.specs.Decoding.{reading, refuses}
 use Rattle.reading.specs.Decimal.{digit, decimal}
-use Rattle.reading.proofs.Decimals.{decimal-one, decimal-more, decimal-length}
-use Rattle.dump_text.specs.Text.{blanked, lineOf}
+use Rattle.reading.proofs.Decimals.{decimal-one, decimal-more}
+use Rattle.dump_text.specs.Text.{blanked, headOf, lineOf}
 use Rattle.dump_text.specs.Parts.{Puts}
 
 -- ---- one behind the other
@@ -39,6 +39,9 @@ module _ {a b o p q : List ℕ} {at r s : ℕ} where
 module _ {a o p : List ℕ} {at r : ℕ} where
   pub puts-length : Puts a at o r p → length p ≡ length o
   puts-length u = ap length (u .stands) ∙ length-sets o at a
+
+  pub puts-within : (n : ℕ) → at + length a ≤ n → Puts a at o r p → r ≤ n
+  puts-within n h u = omega (arith, u .behind)
 
   pub puts-as : (b : List ℕ) → b ≡ a → Puts a at o r p → Puts b at o r p
   puts-as b e u = rw e u
@@ -72,10 +75,6 @@ module _ (n : ℕ) where
 
 -- ---- numbers after blanks
 
--- a number of 64 bits has twenty digits at the most
-pub decimal-room : (n : ℕ) → n < 2 ^ 64 → length (decimal n) ≤ 20
-decimal-room n h = decimal-length 19 n (omega arith)
-
 pub blanked-append : (a b : List ℕ) → blanked (a ++ b) ≡ blanked a ++ blanked b
 unfolding blanked
 blanked-append [] b = refl
@@ -90,18 +89,44 @@ blanked-one n = simp append-nil
 pub blanked-next : (args : List ℕ) (j : ℕ) → j < length args → blanked (take (j + 1) args) ≡ blanked (take j args) ++ blanked (getD args j 0 ∷ [])
 blanked-next args j h = ap blanked (ap (λ (k : ℕ). take k args) (add-one j) ∙ take-suc args j 0 h) ∙ blanked-append (take j args) (getD args j 0 ∷ [])
 
-pub blanked-three : (i : List ℕ) (a b c : ℕ) → i ++ blanked (a ∷ b ∷ c ∷ []) ≡ ((i ++ blanked (a ∷ [])) ++ blanked (b ∷ [])) ++ blanked (c ∷ [])
-blanked-three i a b c =
-    simp append-assoc (ap (λ (l : List ℕ). i ++ l) (blanked-append (a ∷ []) (b ∷ c ∷ []) ∙ ap (λ (l : List ℕ). blanked (a ∷ []) ++ l) (blanked-append (b ∷ []) (c ∷ []))))
+-- which has its room
+pub blanked-room : (args : List ℕ) (j : ℕ) → j < length args → length (blanked (take j args)) + length (blanked (getD args j 0 ∷ [])) ≤ length (blanked args)
+blanked-room args j h =
+    let x : List ℕ = blanked (take j args) in
+    let y : List ℕ = blanked (getD args j 0 ∷ []) in
+    let z : List ℕ = blanked (drop (suc j) args) in
+    let e : blanked args ≡ x ++ (y ++ z) =
+    ap blanked (split-at args j 0 h) ∙ blanked-append (take j args) (getD args j 0 ∷ drop (suc j) args)
+    ∙ ap (λ (l : List ℕ). x ++ l) (blanked-append (getD args j 0 ∷ []) (drop (suc j) args))
+    in
+    omega (arith, simp length-append at (ap length e))
+
+module _ (index a b c : ℕ) where
+  pub head-parts : headOf index a b c ≡ ((decimal index ++ blanked (a ∷ [])) ++ blanked (b ∷ [])) ++ blanked (c ∷ [])
+  head-parts =
+      simp append-assoc
+      (ap (λ (l : List ℕ). decimal index ++ l)
+      (blanked-append (a ∷ []) (b ∷ c ∷ []) ∙ ap (λ (l : List ℕ). blanked (a ∷ []) ++ l) (blanked-append (b ∷ []) (c ∷ []))))
+
+  pub head-length : length (headOf index a b c) ≡ length (decimal index) + length (blanked (a ∷ [])) + length (blanked (b ∷ [])) + length (blanked (c ∷ []))
+  head-length = ap length head-parts ∙ simp length-append
 
 -- ---- lines
 
-pub line-kind : (index kind : ℕ) (args : List ℕ) → lineOf index (reading kind args) ≡ ((decimal index ++ blanked (kind ∷ 0 ∷ 0 ∷ [])) ++ blanked args) ++ (10 ∷ [])
+pub line-kind : (index kind : ℕ) (args : List ℕ) → lineOf index (reading kind args) ≡ (headOf index kind 0 0 ++ blanked args) ++ (10 ∷ [])
 unfolding lineOf
 line-kind index kind args =
     ap (λ (l : List ℕ). l ++ (10 ∷ []))
-    (ap (λ (l : List ℕ). decimal index ++ l) (blanked-append (kind ∷ 0 ∷ 0 ∷ []) args) ∙ sym (append-assoc (decimal index) (blanked (kind ∷ 0 ∷ 0 ∷ [])) (blanked args)))
+    (ap (λ (l : List ℕ). decimal index ++ l) (blanked-append (kind ∷ 0 ∷ 0 ∷ []) args)
+    ∙ sym (append-assoc (decimal index) (blanked (kind ∷ 0 ∷ 0 ∷ [])) (blanked args)))
 
-pub line-refusal : (index : ℕ) (why : Refusal) (n p : ℕ) → n ≡ numberOf why → p ≡ placeOf why → lineOf index (refuses why) ≡ (decimal index ++ blanked (0 ∷ n ∷ p ∷ [])) ++ (10 ∷ [])
-unfolding lineOf
-line-refusal index why n p e f = rw (e, f) refl
+pub kind-length : (index kind : ℕ) (args : List ℕ) → length (lineOf index (reading kind args)) ≡ length (headOf index kind 0 0) + length (blanked args) + 1
+kind-length index kind args = ap length (line-kind index kind args) ∙ simp length-append
+
+module _ (index : ℕ) (why : Refusal) (n p : ℕ) (e : n ≡ numberOf why) (f : p ≡ placeOf why) where
+  pub line-refusal : lineOf index (refuses why) ≡ headOf index 0 n p ++ (10 ∷ [])
+  unfolding lineOf
+  line-refusal = rw (e, f) refl
+
+  pub refusal-length : length (lineOf index (refuses why)) ≡ length (headOf index 0 n p) + 1
+  refusal-length = ap length line-refusal ∙ simp length-append

@@ -1,4 +1,4 @@
--- What one pass of a dump does with a part of a reel: the lines that it writes, and how far it comes.
+-- What one pass of a dump does with a part of a reel: the lines that it writes, and how far it comes (REFERENCE, "Dump").
 -- Assumes nothing.
 use Prim.Native.Nat.{ℕ, suc, _+_, _-_, _^_}
 use mathlib.Core.Path.{_≡_}
@@ -26,9 +26,13 @@ none index = record { used = 0; text = []; next = index }
 abbrev pub line : ℕ → List ℕ → Lines → Lines
 line used text l = record { used = used + l .used; text = text ++ l .text; next = l .next }
 
+-- the length of the longest line that any frame has at any index, as proofs/Longest.antt shows
+abbrev pub longest : ℕ
+longest = 64
+
 -- whether there is room for a line, however long, and an index behind this one
 abbrev pub goesOn : ℕ → ℕ → Bool
-goesOn room index = leb 273 room && ltb index (2 ^ 64 - 1)
+goesOn room index = leb longest room && ltb index (2 ^ 64 - 1)
 
 -- the lines of frames, and of a cut one behind them unless more input is to come, as long as there is room
 unfoldable pub linesFrom : Bool → ℕ → ℕ → List (List ℕ) → List ℕ → Lines

@@ -1,4 +1,4 @@
--- The text of a dump: the bytes that a reel prints as. The quotations are document 01's.
+-- The text of a dump: the bytes that a reel prints as (REFERENCE, "Dump").
 -- Assumes nothing.
 use Prim.Native.Nat.{ℕ, suc}
 use mathlib.Core.List.{List, [], _∷_, _++_}
@@ -10,38 +10,42 @@ use Rattle.reel.specs.Reel.{unreel}
 
 -- ---- a line
 
--- "kind (0 if refused)"
+-- the kind of a frame that decodes; 0 for one that is refused
 abbrev pub kindOf : Reading → ℕ
 kindOf (reading kind args) = kind
 kindOf (refuses why) = 0
 
--- "refusal": 0 if there is none
+-- the number of the refusal; 0 where there is none
 abbrev pub refusalOf : Reading → ℕ
 refusalOf (reading kind args) = 0
 refusalOf (refuses why) = numberOf why
 
--- "place": 0 if there is no refusal
+-- the place that the refusal has; 0 where there is none
 abbrev pub placeIn : Reading → ℕ
 placeIn (reading kind args) = 0
 placeIn (refuses why) = placeOf why
 
--- "then arguments": none if refused
+-- a refused frame has no arguments
 abbrev pub argumentsOf : Reading → List ℕ
 argumentsOf (reading kind args) = args
 argumentsOf (refuses why) = []
 
--- numbers "as decimals", one blank before each; 32 is the blank
+-- numbers in decimal, one blank before each; 32 is the blank
 unfoldable pub blanked : List ℕ → List ℕ
 blanked [] = []
 blanked (n ∷ ns) = 32 ∷ decimal n ++ blanked ns
 
--- "per frame its index, kind (0 if refused), refusal, place, then arguments as decimals"; 10 is the newline
+-- the four numbers that every line begins with
+abbrev pub headOf : ℕ → ℕ → ℕ → ℕ → List ℕ
+headOf index kind refusal place = decimal index ++ blanked (kind ∷ refusal ∷ place ∷ [])
+
+-- a frame prints as its index, kind, refusal, place and arguments, and a newline, which is 10
 unfoldable pub lineOf : ℕ → Reading → List ℕ
 lineOf index r = decimal index ++ blanked (kindOf r ∷ refusalOf r ∷ placeIn r ∷ argumentsOf r) ++ (10 ∷ [])
 
 -- ---- a text
 
--- the lines of frames from an index on. "A cut frame gives one line (its index, 0, 14, 0) and ends."
+-- a line for each frame, from an index on; where bytes are left behind the frames, the line of a cut one ends the text
 unfoldable pub textFrom : ℕ → List (List ℕ) → List ℕ → List ℕ
 textFrom index [] [] = []
 textFrom index [] (b ∷ rest) = lineOf index (refuses ReelCut)
@@ -51,6 +55,6 @@ textFrom index (f ∷ frames) rest = lineOf index (decode f) ++ textFrom (suc in
 abbrev pub textAt : ℕ → List ℕ → List ℕ
 textAt index reel = textFrom index (unreel reel .frames) (unreel reel .rest)
 
--- "Dump: per frame [..]; no header."
+-- a dump is the lines of its frames, counted from 0, and nothing before or behind them
 abbrev pub textOf : List ℕ → List ℕ
 textOf reel = textAt 0 reel

@@ -1,4 +1,4 @@
--- A whole text in one output.
+-- A whole text in one output (REFERENCE, "Dump" and "Refusals").
 -- Assumes nothing.
 use Prim.Native.Nat.{ℕ, _+_, _≤_, _<_}
 use mathlib.Core.Path.{_≡_}
@@ -10,7 +10,7 @@ use Rattle.refusal.specs.declared.Refusal.the-variants.{OutputShort}
 use Rattle.dump_text.specs.declared.Dumped.{Dumped}
 use Rattle.dump_text.specs.declared.Dumped.the-variants.{Text, Refused}
 
--- "output shorter than needed"
+-- an output shorter than the text is refused
 abbrev pub dumped : List ℕ → List ℕ → Dumped
 dumped text out = cond (leb (length text) (length out)) (Text (length text)) (Refused OutputShort)
 

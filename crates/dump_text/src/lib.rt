@@ -2,13 +2,13 @@
 // `pass` works in parts, so that a reel of any length goes through buffers of fixed size: proofs/Parts.antt says that the parts make up the whole.
 ghost use mathlib.Core.Path.{_≡_};
 ghost use mathlib.Core.Bool.{true, cond};
-ghost use mathlib.Core.List.{[], _∷_, _++_};
+ghost use mathlib.Core.List.{[], _∷_};
 ghost use Prim.Native.Nat.{_+_, _≤_};
-ghost use lib.ListN.{length, take};
+ghost use lib.ListN.{length};
 ghost use Rattle.reading.specs.Decimal.{digit, decimal};
 ghost use Rattle.decoder.specs.Decoding.{reading, refuses, decode};
 ghost use Rattle.reel.specs.Reel.{unreel};
-ghost use Rattle.dump_text.specs.Text.{blanked, lineOf, textOf};
+ghost use Rattle.dump_text.specs.Text.{blanked, headOf, lineOf, textOf};
 ghost use Rattle.dump_text.specs.Parts.{goesOn, linesOf, Puts, Passes};
 ghost use Rattle.dump_text.specs.Whole.{dumped, filled, laidAt, Lays};
 use decoder::Answer;
@@ -16,8 +16,8 @@ use reel::Cursor;
 use reel::Step;
 use refusal::Refusal;
 
-// No line is longer: thirteen numbers of up to twenty digits, a blank or a newline behind each.
-const LONGEST: usize = 273;
+// The longest line is that of kind 6 with every bit set, at an index of twenty digits: proofs/Longest.antt.
+const LONGEST: usize = 64;
 
 // How far a pass came: the input bytes that it used, the output bytes that it wrote, and the index of the next frame.
 pub struct Passed {
@@ -63,9 +63,8 @@ fn put_decimal(out: &mut [u8], at: usize, n: u64) -> usize
 
 // A blank and a number.
 fn put_number(out: &mut [u8], at: usize, n: u64) -> usize
-    requires { ⌜ at + 21 ≤ length (now out) ⌝ }
+    requires { ⌜ at + length (blanked (n ∷ [])) ≤ length (now out) ⌝ }
     ensures { λ r. ⌜ Puts (blanked (n ∷ [])) at (now (out .entry)) r (now (out .exit)) ⌝ }
-    ensures { λ r. ⌜ r ≤ at + 21 ⌝ }
 {
     let to = put_byte(out, at, b' ');
     put_decimal(out, to, n)
@@ -73,9 +72,8 @@ fn put_number(out: &mut [u8], at: usize, n: u64) -> usize
 
 // Numbers, a blank before each.
 fn put_arguments(out: &mut [u8], at: usize, args: &[u64]) -> usize
-    requires { ⌜ (at + 189 ≤ length (now out)) × (length (now args) ≤ 9) ⌝ }
+    requires { ⌜ at + length (blanked (now args)) ≤ length (now out) ⌝ }
     ensures { λ r. ⌜ Puts (blanked (now (args .entry))) at (now (out .entry)) r (now (out .exit)) ⌝ }
-    ensures { λ r. ⌜ r ≤ at + 189 ⌝ }
 {
     let mut to = at;
     let mut j: usize = 0;
@@ -90,9 +88,8 @@ fn put_arguments(out: &mut [u8], at: usize, args: &[u64]) -> usize
 
 // The four numbers that every line begins with.
 fn put_head(out: &mut [u8], at: usize, index: u64, kind: u64, refusal: u64, place: u64) -> usize
-    requires { ⌜ at + 83 ≤ length (now out) ⌝ }
-    ensures { λ r. ⌜ Puts (decimal index ++ blanked (kind ∷ refusal ∷ place ∷ [])) at (now (out .entry)) r (now (out .exit)) ⌝ }
-    ensures { λ r. ⌜ r ≤ at + 83 ⌝ }
+    requires { ⌜ at + length (headOf index kind refusal place) ≤ length (now out) ⌝ }
+    ensures { λ r. ⌜ Puts (headOf index kind refusal place) at (now (out .entry)) r (now (out .exit)) ⌝ }
 {
     let a = put_decimal(out, at, index);
     let b = put_number(out, a, kind);
@@ -102,9 +99,8 @@ fn put_head(out: &mut [u8], at: usize, index: u64, kind: u64, refusal: u64, plac
 
 // The line of a frame that is refused.
 fn put_refusal(out: &mut [u8], at: usize, index: u64, why: Refusal) -> usize
-    requires { ⌜ at + 84 ≤ length (now out) ⌝ }
+    requires { ⌜ at + length (lineOf index (refuses why)) ≤ length (now out) ⌝ }
     ensures { λ r. ⌜ Puts (lineOf index (refuses why)) at (now (out .entry)) r (now (out .exit)) ⌝ }
-    ensures { λ r. ⌜ r ≤ at + 84 ⌝ }
 {
     let number = why.number() as u64;
     let place = why.place() as u64;
@@ -114,9 +110,8 @@ fn put_refusal(out: &mut [u8], at: usize, index: u64, why: Refusal) -> usize
 
 // The line of a frame of this kind.
 fn put_kind(out: &mut [u8], at: usize, index: u64, kind: u64, args: &[u64]) -> usize
-    requires { ⌜ (at + 273 ≤ length (now out)) × (length (now args) ≤ 9) ⌝ }
+    requires { ⌜ at + length (lineOf index (reading kind (now args))) ≤ length (now out) ⌝ }
     ensures { λ r. ⌜ Puts (lineOf index (reading kind (now (args .entry)))) at (now (out .entry)) r (now (out .exit)) ⌝ }
-    ensures { λ r. ⌜ r ≤ at + 273 ⌝ }
 {
     let to = put_head(out, at, index, kind, 0, 0);
     let end = put_arguments(out, to, args);
@@ -125,9 +120,8 @@ fn put_kind(out: &mut [u8], at: usize, index: u64, kind: u64, args: &[u64]) -> u
 
 // The line of a frame.
 fn put_line(out: &mut [u8], at: usize, index: u64, frame: &[u8]) -> usize
-    requires { ⌜ at + 273 ≤ length (now out) ⌝ }
+    requires { ⌜ at + length (lineOf index (decode (now frame))) ≤ length (now out) ⌝ }
     ensures { λ r. ⌜ Puts (lineOf index (decode (now (frame .entry)))) at (now (out .entry)) r (now (out .exit)) ⌝ }
-    ensures { λ r. ⌜ r ≤ at + 273 ⌝ }
 {
     let d = decoder::decode(frame);
     let answer = d.answer;
@@ -160,19 +154,19 @@ pub fn pass(index: u64, input: &[u8], more: bool, out: &mut [u8]) -> Passed
     ensures { λ r. ⌜ Passes (linesOf more (length (now (out .entry))) index (unreel (now (input .entry)))) (now (out .entry)) r (now (out .exit)) ⌝ }
     ensures { λ r. ⌜ (r .used ≤ length (now (input .entry))) × (r .written ≤ length (now (out .entry))) ⌝ }
 {
-    let mut used: usize = 0;
+    let mut cursor = Cursor::new();
     let mut written: usize = 0;
     let mut next = index;
     while goes_on(out.len() - written, next) {
-        let step = Cursor { at: used }.step(input);
+        let step = cursor.step(input);
         match step {
             Step::Frame {
                 start,
                 end,
-                next: _,
+                next: behind,
             } => {
                 written = put_line(out, written, next, &input[start..end]);
-                used = end;
+                cursor = behind;
                 next += 1;
             }
             Step::End => break,
@@ -190,7 +184,7 @@ pub fn pass(index: u64, input: &[u8], more: bool, out: &mut [u8]) -> Passed
         }
     }
     Passed {
-        used,
+        used: cursor.at,
         written,
         next,
     }
@@ -240,7 +234,8 @@ fn lay(reel: &[u8], out: &mut [u8], write: bool) -> usize
 
 // The text of a reel at the start of `out`, or a refusal where the output is too short.
 pub fn dump(reel: &[u8], out: &mut [u8]) -> Dumped
-    ensures { λ r. ⌜ (r ≡ dumped (textOf (now (reel .entry))) (now (out .entry))) × (now (out .exit) ≡ filled (textOf (now (reel .entry))) (now (out .entry))) ⌝ }
+    ensures { λ r. ⌜ r ≡ dumped (textOf (now (reel .entry))) (now (out .entry)) ⌝ }
+    ensures { λ r. ⌜ now (out .exit) ≡ filled (textOf (now (reel .entry))) (now (out .entry)) ⌝ }
 {
     let n = lay(reel, out, false);
     if n <= out.len() {

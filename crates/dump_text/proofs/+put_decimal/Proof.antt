@@ -50,4 +50,5 @@ pub +put-decimal-spec : {M : Type 1} → statement M
     omega (arith, u .behind, v .behind, room-hundreds n (omega arith) (omega arith)))
     (λ c. search needs)
     (λ c. puts-as _ (decimal-hundreds _ (omega arith) (omega arith))
-    (puts-then (puts-then (c .before .before .before .before .before .before .before .before .before .before .put-decimal .ensures) (c .before .before .before .before .before .before .put-digit4 .ensures)) (c .before .before .put-digit5 .ensures))))
+    (let u = c .before .before .before .before .before .before in
+    puts-then (puts-then (u .before .before .before .before .put-decimal .ensures) (u .put-digit4 .ensures)) (c .before .before .put-digit5 .ensures))))
