@@ -1,8 +1,7 @@
 #!/usr/bin/env python3
-"""The text of a dump, a second time: written from document 01 alone, with a table of its own, and nothing shared with the library.
+"""The text of a dump, a second time: with a table of its own, and nothing shared with the library (REFERENCE, "Dump").
 
     dump.py < REEL          prints the text of a reel
-    dump.py --batch < REELS the same for many reels, each after its length in four bytes, high byte first; texts likewise
 """
 import sys
 
@@ -21,8 +20,8 @@ RX_BW = (255, 0, 64, 128, 192, 136, 200, 144, 24, 208, 88, 152, 32, 96, 216, 160
          163, 20, 84, 227, 28, 212, 92, 156, 36, 100, 220, 164, 21, 85, 228, 29, 213, 93, 157, 37, 101, 165, 86, 229,
          30, 94, 158, 38, 102, 222, 166, 23, 87, 230, 31, 215, 95, 159, 39, 103, 223, 167, 231)
 
-# Kind, opcode, length, fields in argument order. A field: its place as document 01 writes it, narrowed where the text narrows it
-# ("<" low byte first, "" no bits at all: it reads as 0), and its codes.
+# Kind, opcode, length, fields in argument order (REFERENCE, "Commands"). A field: its codes, and its place as the decoder has it, such as
+# "2.7-4" for bits 7 to 4 of byte 2 and "2-3" for whole bytes ("<" low byte first, "" no bits at all: it reads as 0).
 ROWS = [
     (1, 0x0220, 4, [("2.7-4", SF), ("2.3-0", None), ("3.7-4", CR), ("3.1-0", TWO), ("3.3-2", None)]),
     (2, 0x0221, 6, [("2-3", None), ("4", None), ("5.2", None), ("5.1", None), ("5.0", None)]),
@@ -137,18 +136,5 @@ def text(reel):
     return "".join(lines).encode()
 
 
-def main():
-    data = sys.stdin.buffer.read()
-    if sys.argv[1:] != ["--batch"]:
-        sys.stdout.buffer.write(text(data))
-        return
-    at = 0
-    while at < len(data):
-        n = int.from_bytes(data[at:at + 4], "big")
-        out = text(data[at + 4:at + 4 + n])
-        sys.stdout.buffer.write(len(out).to_bytes(4, "big") + out)
-        at += 4 + n
-
-
 if __name__ == "__main__":
-    main()
+    sys.stdout.buffer.write(text(sys.stdin.buffer.read()))

@@ -1,4 +1,4 @@
-// The codes of the Rust's enums as numbers, so that oracle/model.rs compiles with no Rust at hand; oracle/enums.rs takes them from the Rust.
+// The codes of the Rust's enums as numbers, for where its files are not at hand; where they are, oracle/main.rs holds these to them.
 pub const SF: &[u64] = &[5, 6, 7, 8, 9, 10, 11, 12];
 pub const LORA_BW: &[u64] = &[0, 1, 2, 3, 4, 5, 6, 7, 8, 9, 10, 11, 12, 13, 14, 15];
 pub const LORA_CR: &[u64] = &[0, 1, 2, 3, 4, 5, 6, 7, 8, 9];
@@ -9,8 +9,10 @@ pub const TIMEOUT_FORMAT: &[u64] = &[0, 1];
 pub const LORA_EXIT_MODE: &[u64] = &[0, 1, 16];
 pub const ADDR_LEN: &[u64] = &[0, 1, 2, 3, 4, 5, 6, 7, 8];
 pub const TIMING_SYNC_MODE: &[u64] = &[0, 1, 2];
+pub const DIO_NUM: &[u64] = &[5, 6, 7, 8, 9, 10, 11];
 pub const PULSE_SHAPE: &[u64] = &[0, 1, 2, 3, 4, 5, 6, 7, 8, 9, 10, 11, 12, 13, 14, 15];
 pub const PBL_LEN_DETECT: &[u64] = &[0, 8, 16, 24, 32];
+pub const PLD_LEN_UNIT: &[u64] = &[0, 1];
 pub const ADDR_COMP: &[u64] = &[0, 1, 2];
 pub const FSK_PKT_FORMAT: &[u64] = &[0, 1, 2, 3];
 pub const CRC: &[u64] = &[0, 1, 2, 3, 4, 9, 10, 11, 12];

@@ -40,10 +40,10 @@ mod enums {
 }
 
 #[cfg(source)]
-#[path = "../../../shared/docs/src/src/status.rs"]
+#[path = "../../target/lr2021/status.rs"]
 mod status;
 #[cfg(source)]
-#[path = "../../../shared/docs/src/src/cmd"]
+#[path = "../../target/lr2021/cmd"]
 mod cmd {
     pub mod cmd_common;
     pub mod cmd_fsk;

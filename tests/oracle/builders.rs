@@ -1,7 +1,6 @@
 // The 39 plain builders: what arguments each kind takes, and the frame that the Rust builds of them.
-use crate::cmd::cmd_common::*;
-use crate::cmd::cmd_fsk::*;
-use crate::cmd::cmd_lora::*;
+#[cfg(source)]
+use crate::cmd::{cmd_common::*, cmd_fsk::*, cmd_lora::*};
 use crate::enums::*;
 
 // An argument: one of these codes, or any number of a type of `width` bits, of which the frame holds `field`.
@@ -82,11 +81,13 @@ pub fn arguments(kind: u8) -> Vec<Argument> {
     }
 }
 
+#[cfg(source)]
 fn yes(x: u64) -> bool {
     x != 0
 }
 
 // The frame of a kind. Every argument fits its Rust type, so no cast loses a bit.
+#[cfg(source)]
 pub fn frame(kind: u8, a: &[u64; 9]) -> Vec<u8> {
     let b = |i: usize| a[i] as u8;
     let h = |i: usize| a[i] as u16;

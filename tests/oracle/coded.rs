@@ -1,4 +1,4 @@
-// Requests to the decoder and the checked builder: good frames and arguments, each damaged in every way that document 01 names.
+// Requests to the decoder and the checked builder: good frames and arguments, each damaged in every way that is refused.
 use crate::model::{allowed, checked, commands, Built, Command, Field};
 use crate::sets::{Random, Set};
 use std::io::Result;

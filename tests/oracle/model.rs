@@ -1,5 +1,5 @@
-// The checked builder and the decoder as document 01 describes them, written from its lines alone: a field is the list of its bits, each
-// a byte and a bit of the frame, the lowest bit of the value first. The codes of an enum are the Rust's.
+// The checked builder and the decoder, a second time (REFERENCE, "Checked builder" and "Decoder"): a field is the list of its bits, each a
+// byte and a bit of the frame, the lowest bit of the value first. The codes of an enum are the Rust's.
 use crate::enums::*;
 
 pub struct Field {
@@ -16,7 +16,7 @@ pub struct Command {
     pub fields: Vec<Field>,
 }
 
-// Document 01, "Command table"; "low" marks the address, whose low byte comes first.
+// Kind, opcode and length, and the arguments with their places (REFERENCE, "Commands"); "low" marks the address, whose low byte comes first.
 const LINES: &str = "\
 1 0220/4 sf 2.7-4, lora_bw 2.3-0, lora_cr 3.7-4, ldro 3.1-0, lora_filter 3.3-2
 2 0221/6 pbl_len 2-3, payload_len 4, header_type 5.2, crc_en 5.1, invert_iq 5.0
@@ -73,7 +73,7 @@ fn codes_of(name: &str) -> Option<&'static [u64]> {
         "pulse_shape" => PULSE_SHAPE,
         "rx_bw" => RX_BW,
         "pbl_len_detect" => PBL_LEN_DETECT,
-        // "kind 17 refuses `PldLenUnit::Bits`"
+        // kind 17 takes bytes as its unit, and no bits
         "pld_len_unit" => &[0],
         "addr_comp" => ADDR_COMP,
         "fsk_pkt_format" => FSK_PKT_FORMAT,
@@ -93,7 +93,7 @@ fn codes_of(name: &str) -> Option<&'static [u64]> {
 }
 
 fn number(text: &str) -> usize {
-    text.parse().expect("a number of document 01")
+    text.parse().expect("a number")
 }
 
 // The bits of a place such as "2.7-4", "5.2", "2-3", "4" or "2.3-0+3", the lowest first.

@@ -1,11 +1,11 @@
 // The requests: the wide set and the sample. Both are the same on every run: the random numbers have a fixed seed.
-use crate::answers::answer;
+use crate::answers::{answer, is_the_rusts};
 use crate::builders::{arguments, Argument};
 use crate::coded::codec;
 use crate::enums::{LORA_BW, LORA_CR, SF};
 use crate::{ANSWER, HEAD, PAYLOAD, REQUEST};
 use std::fs::File;
-use std::io::{BufWriter, Result, Write};
+use std::io::{BufWriter, Error, ErrorKind, Result, Write};
 
 // A kind with at most this many different calls has them all in the wide set.
 const ALL: u64 = 1 << 17;
@@ -14,7 +14,8 @@ const MANY: usize = 40_000;
 // So many requests has each kind in the sample, at least, where there are as many.
 const FEW: usize = 24;
 
-const RESPONSES: [(u8, usize); 7] = [(66, 12), (67, 8), (68, 16), (69, 8), (70, 4), (71, 6), (72, 6)];
+// Operation and stated length of each response.
+pub const RESPONSES: [(u8, usize); 7] = [(66, 12), (67, 8), (68, 16), (69, 8), (70, 4), (71, 6), (72, 6)];
 const LONGEST: usize = 20;
 
 // splitmix64.
@@ -49,7 +50,32 @@ pub struct Set {
     requests: BufWriter<File>,
     answers: BufWriter<File>,
     pub random: Random,
-    groups: Vec<(&'static str, usize)>,
+    groups: Vec<Group>,
+}
+
+// How many requests the Rust answered, and our model; and how many were left out.
+#[derive(Default)]
+struct Group {
+    name: &'static str,
+    rust: usize,
+    model: usize,
+    left: usize,
+}
+
+impl Group {
+    // Takes note of a request, and tells whether it has an answer.
+    fn count(&mut self, op: u8, aux: u8, is_answered: bool) -> bool {
+        *match (is_answered, is_the_rusts(op, aux)) {
+            (false, _) => &mut self.left,
+            (true, true) => &mut self.rust,
+            (true, false) => &mut self.model,
+        } += 1;
+        is_answered
+    }
+
+    fn print(&self) {
+        println!("{:>9} {:>9} {:>9} {}", self.rust, self.model, self.left, self.name);
+    }
 }
 
 impl Set {
@@ -63,18 +89,19 @@ impl Set {
     }
 
     pub fn group(&mut self, name: &'static str) {
-        self.groups.push((name, 0));
+        self.groups.push(Group { name, ..Group::default() });
     }
 
     fn ask(&mut self, op: u8, aux: usize, payload: &[u8; PAYLOAD]) -> Result<()> {
-        let mut request = [0; REQUEST];
-        request[0] = op;
-        request[1] = aux as u8;
-        request[HEAD..].copy_from_slice(payload);
-        self.requests.write_all(&request)?;
-        let answer: [u8; ANSWER] = answer(op, aux as u8, payload);
-        self.answers.write_all(&answer)?;
-        self.groups.last_mut().expect("a group").1 += 1;
+        let answer = answer(op, aux as u8, payload);
+        if self.groups.last_mut().expect("a group").count(op, aux as u8, answer.is_some()) {
+            let mut request = [0; REQUEST];
+            request[0] = op;
+            request[1] = aux as u8;
+            request[HEAD..].copy_from_slice(payload);
+            self.requests.write_all(&request)?;
+            self.answers.write_all(&answer.expect("an answer"))?;
+        }
         Ok(())
     }
 
@@ -96,12 +123,13 @@ impl Set {
     fn end(mut self) -> Result<()> {
         self.requests.flush()?;
         self.answers.flush()?;
-        let mut all = 0;
-        for (name, count) in &self.groups {
-            println!("{:>9} {}", count, name);
-            all += count;
+        println!("     Rust     model  left out");
+        let mut all = Group { name: "in all", ..Group::default() };
+        for group in &self.groups {
+            group.print();
+            all = Group { rust: all.rust + group.rust, model: all.model + group.model, left: all.left + group.left, ..all };
         }
-        println!("{:>9} in all", all);
+        all.print();
         Ok(())
     }
 }
@@ -421,4 +449,19 @@ pub fn wide(requests: &str, answers: &str) -> Result<()> {
 
 pub fn sample(requests: &str, answers: &str) -> Result<()> {
     whole(requests, answers, false)
+}
+
+// Holds stored answers to those of the Rust and the model, as far as they are at hand.
+pub fn stored(requests: &str, answers: &str) -> Result<()> {
+    let (requests, answers) = (std::fs::read(requests)?, std::fs::read(answers)?);
+    let mut all = Group { name: "stored", ..Group::default() };
+    for (i, (request, stored)) in requests.chunks_exact(REQUEST).zip(answers.chunks_exact(ANSWER)).enumerate() {
+        let (op, aux) = (request[0], request[1]);
+        let ours = answer(op, aux, request[HEAD..].try_into().expect("a payload"));
+        if all.count(op, aux, ours.is_some()) && ours.map_or(true, |a| a != stored) {
+            return Err(Error::new(ErrorKind::Other, format!("stored request {} (counted from 0), operation {}: another answer", i, op)));
+        }
+    }
+    all.print();
+    Ok(())
 }
