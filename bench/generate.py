@@ -14,7 +14,7 @@ import sys
 CRATES = ["cmd_lora", "cmd_fsk", "cmd_common"]
 RUST_ENUM = {"LoraCadExitMode": "cmd_lora::ExitMode", "CadExitMode": "cmd_common::ExitMode"}
 WIDTH = {"u8": 8, "u16": 16, "u32": 32, "u64": 64, "bool": 1}
-SOURCE = "../../../shared/docs/src/src"
+SOURCE = "../lr2021"  # tests/rust-source links it; rust.rs is compiled in OUT
 
 
 def read(crate):
