@@ -1,5 +1,4 @@
--- The responses to the common commands, as document 01 lists them: "Responses, status first ("n:b" is twice byte n plus bit b)".
--- Any other length is refusal 7, "response length not the stated one".
+-- The responses to the common commands: where each field stands behind the status (REFERENCE, "Responses"). Another length is refused.
 -- Assumes nothing.
 use Prim.Native.Nat.{ℕ}
 use mathlib.Core.Bool.{cond}
@@ -19,7 +18,7 @@ use Rattle.cmd_common.specs.declared.rsp.CcaResultRsp.{CcaResultRsp}
 use Rattle.cmd_common.specs.declared.rsp.CcaResultRead.{CcaResultRead}
 use Rattle.cmd_common.specs.declared.rsp.CcaResultRead.the-variants as ccaResult
 
--- "RssiInstRsp 4: rssi 2:3.0."
+-- four bytes
 unfoldable pub rssiInstRsp : List ℕ → RssiInstRsp
 rssiInstRsp b =
     record {
@@ -30,7 +29,7 @@ rssiInstRsp b =
 abbrev pub rssiInstRead : List ℕ → RssiInstRead
 rssiInstRead b = cond (eqb (length b) 4) (rssiInst.Rsp (rssiInstRsp b)) (rssiInst.Refused ResponseLength)
 
--- "TimestampValueRsp 6: 2-5."
+-- six bytes
 unfoldable pub timestampValueRsp : List ℕ → TimestampValueRsp
 timestampValueRsp b =
     record {
@@ -41,7 +40,7 @@ timestampValueRsp b =
 abbrev pub timestampValueRead : List ℕ → TimestampValueRead
 timestampValueRead b = cond (eqb (length b) 6) (timestampValue.Rsp (timestampValueRsp b)) (timestampValue.Refused ResponseLength)
 
--- "CcaResultRsp 6: rssi_min 2:5.2, rssi_max 3:5.1", and from the Rust: rssi_avg 4:5.0
+-- six bytes; the last bits of the three levels are in byte 5
 unfoldable pub ccaResultRsp : List ℕ → CcaResultRsp
 ccaResultRsp b =
     record {

@@ -2,7 +2,8 @@
 ghost use mathlib.Core.Path.{_≡_};
 ghost use mathlib.Core.List.{[], _∷_};
 ghost use Rattle.table.specs.Table.{plain, yesNo};
-ghost use Rattle.cmd_common.specs.Codes.{rxPathCode, rxBoostCode, paSelCode, paLfModeCode, autoTxrxModeCode, timestampIndexCode, timestampSourceCode, cadExitModeCode};
+ghost use Rattle.cmd_common.specs.Codes.{rxPathCode, rxBoostCode, paSelCode, paLfModeCode};
+ghost use Rattle.cmd_common.specs.Codes.{autoTxrxModeCode, timestampIndexCode, timestampSourceCode, cadExitModeCode};
 use table::OPCODE;
 use table::put_plain;
 use table::yes_no;
@@ -16,6 +17,8 @@ pub use rsp::RssiInstRead;
 pub use rsp::RssiInstRsp;
 pub use rsp::TimestampValueRead;
 pub use rsp::TimestampValueRsp;
+
+// The units of the arguments are those that the Rust states; where it states none, none is given (REFERENCE, "Commands").
 
 // Receive path: low or high frequency.
 pub enum RxPath {
@@ -34,7 +37,7 @@ impl RxPath {
     }
 }
 
-// Receive boost, off to full.
+// Receive boost, off to full; a command that brings none leaves it as it was.
 pub enum RxBoost {
     Off,
     B1,
@@ -80,7 +83,7 @@ impl PaSel {
     }
 }
 
-// Mode of the low frequency amplifier.
+// Mode of the low frequency amplifier; the first where it is not used.
 pub enum PaLfMode {
     LfPaFsm,
     LfPaFdm,
@@ -262,7 +265,7 @@ pub fn set_pa_config_adv_cmd(
     cmd
 }
 
-// Kind 29. Receives, for so many steps of the clock at most.
+// Kind 29. Receives. The time-out counts steps of 1/32.768 kHz, so it is at most 512 s.
 pub fn set_rx_adv_cmd(rx_timeout: u32) -> [u8; 5]
     ensures { λ r. ⌜ r ≡ plain 29 («rx_timeout» ∷ []) ⌝ }
 {
@@ -272,7 +275,7 @@ pub fn set_rx_adv_cmd(rx_timeout: u32) -> [u8; 5]
     cmd
 }
 
-// Kind 30. Transmits, for so many steps of the clock at most.
+// Kind 30. Transmits. The time-out counts steps of 1/32.768 kHz, so it is at most 512 s.
 pub fn set_tx_adv_cmd(tx_timeout: u32) -> [u8; 5]
     ensures { λ r. ⌜ r ≡ plain 30 («tx_timeout» ∷ []) ⌝ }
 {
@@ -292,7 +295,7 @@ pub fn sel_pa_cmd(pa_sel: PaSel) -> [u8; 3]
     cmd
 }
 
-// Kind 32. Receives now and then.
+// Kind 32. Receives anew after each cycle_time, and listens for rx_max_time.
 pub fn set_rx_duty_cycle_cmd(
     rx_max_time: u32,
     cycle_time: u32,
@@ -328,7 +331,7 @@ pub fn set_auto_rx_tx_cmd(
     cmd
 }
 
-// Kind 34. Timeouts for commands that bring none.
+// Kind 34. The time-outs of kinds 29 and 30, in their steps, where a DIO triggers or where a command brings none.
 pub fn set_default_rx_tx_timeout_cmd(rx_timeout: u32, tx_timeout: u32) -> [u8; 8]
     ensures { λ r. ⌜ r ≡ plain 34 («rx_timeout» ∷ «tx_timeout» ∷ []) ⌝ }
 {
@@ -357,7 +360,7 @@ pub fn set_timestamp_source_cmd(
     cmd
 }
 
-// Kind 36. Measures whether the channel is clear.
+// Kind 36. Receives for the duration and measures the level, to tell whether the channel is clear.
 pub fn set_cca_cmd(duration: u32) -> [u8; 5]
     ensures { λ r. ⌜ r ≡ plain 36 (duration ∷ []) ⌝ }
 {
@@ -388,7 +391,7 @@ pub fn set_agc_gain_manual_cmd(gain_step: u8) -> [u8; 3]
     cmd
 }
 
-// Kind 39. Parameters of the channel activity detection of the other modems.
+// Kind 39. Parameters of the channel activity detection of the other modems, which goes by the measured level.
 pub fn set_cad_params_cmd(
     cad_timeout: u32,
     threshold: u8,

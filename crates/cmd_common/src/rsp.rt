@@ -1,4 +1,4 @@
-// The responses to the common commands, as the fields that they hold. specs/Responses.antt has document 01's lines.
+// The responses to the common commands, as the fields that they hold. specs/Responses.antt has the places.
 ghost use mathlib.Core.Path.{_≡_};
 ghost use Rattle.cmd_common.specs.Responses.{rssiInstRsp, rssiInstRead, timestampValueRsp, timestampValueRead, ccaResultRsp, ccaResultRead};
 use frame::byte_at;
@@ -6,9 +6,9 @@ use reading::HalfDbm;
 use refusal::Refusal;
 use status::Status;
 use status::half;
-use status::long;
+use status::u32_of;
 
-// The level at this moment.
+// The level at this moment, in halves of a dBm below zero.
 pub struct RssiInstRsp {
     pub status: Status,
     pub rssi: HalfDbm,
@@ -48,7 +48,7 @@ impl RssiInstRsp {
     }
 }
 
-// A time stamp, in ticks of the fast clock.
+// A time stamp: the ticks of the high frequency clock from the event to the request. It is wrong where the chip slept in between.
 pub struct TimestampValueRsp {
     pub status: Status,
     pub timestamp: u32,
@@ -67,7 +67,7 @@ impl TimestampValueRsp {
     {
         TimestampValueRsp {
             status: Status::from_slice(bytes),
-            timestamp: long(
+            timestamp: u32_of(
                 byte_at(bytes, 2),
                 byte_at(bytes, 3),
                 byte_at(bytes, 4),
@@ -93,7 +93,7 @@ impl TimestampValueRsp {
     }
 }
 
-// The levels that an assessment of the channel met.
+// The lowest, highest and average level that an assessment of the channel met, in halves of a dBm below zero.
 pub struct CcaResultRsp {
     pub status: Status,
     pub rssi_min: HalfDbm,

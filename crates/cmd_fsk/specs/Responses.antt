@@ -1,5 +1,4 @@
--- The responses to the FSK commands, as document 01 lists them: "Responses, status first ("n:b" is twice byte n plus bit b)".
--- Any other length is refusal 7, "response length not the stated one".
+-- The responses to the FSK commands: where each field stands behind the status (REFERENCE, "Responses"). Another length is refused.
 -- Assumes nothing.
 use Prim.Native.Nat.{ℕ}
 use mathlib.Core.Bool.{cond}
@@ -16,7 +15,7 @@ use Rattle.cmd_fsk.specs.declared.rsp.FskPacketStatusRsp.{FskPacketStatu
 use Rattle.cmd_fsk.specs.declared.rsp.FskPacketStatusRead.{FskPacketStatusRead}
 use Rattle.cmd_fsk.specs.declared.rsp.FskPacketStatusRead.the-variants as fskPacketStatus
 
--- "FskRxStatsRsp 16: pkt_rx, crc_error, len_error, pbl_det, sync_ok, sync_fail, timeout, two bytes each from 2"
+-- sixteen bytes: seven counts of 16 bits
 unfoldable pub fskRxStatsRsp : List ℕ → FskRxStatsRsp
 fskRxStatsRsp b =
     record {
@@ -33,7 +32,7 @@ fskRxStatsRsp b =
 abbrev pub fskRxStatsRead : List ℕ → FskRxStatsRead
 fskRxStatsRead b = cond (eqb (length b) 16) (fskRxStats.Rsp (fskRxStatsRsp b)) (fskRxStats.Refused ResponseLength)
 
--- "FskPacketStatusRsp 8: pkt_len 2-3, rssi_avg 4:6.2, rssi_sync 5:6.0, addr_match_bcast 6.5, addr_match_node 6.4, lqi 7"
+-- eight bytes; the last bits of both levels are in byte 6, beside the matches
 unfoldable pub fskPacketStatusRsp : List ℕ → FskPacketStatusRsp
 fskPacketStatusRsp b =
     record {

@@ -2,7 +2,8 @@
 ghost use mathlib.Core.Path.{_≡_};
 ghost use mathlib.Core.List.{[], _∷_};
 ghost use Rattle.table.specs.Table.{plain, yesNo};
-ghost use Rattle.cmd_fsk.specs.Codes.{pulseShapeCode, rxBwCode, pblLenDetectCode, pldLenUnitCode, addrCompCode, fskPktFormatCode, crcCode, whitenTypeCode, bitOrderCode};
+ghost use Rattle.cmd_fsk.specs.Codes.{pulseShapeCode, rxBwCode, pblLenDetectCode, pldLenUnitCode};
+ghost use Rattle.cmd_fsk.specs.Codes.{addrCompCode, fskPktFormatCode, crcCode, whitenTypeCode, bitOrderCode};
 use table::OPCODE;
 use table::put_plain;
 use table::yes_no;

@@ -1,4 +1,4 @@
-// The responses to the FSK commands, as the fields that they hold. specs/Responses.antt has document 01's lines.
+// The responses to the FSK commands, as the fields that they hold. specs/Responses.antt has the places.
 ghost use mathlib.Core.Path.{_≡_};
 ghost use Rattle.cmd_fsk.specs.Responses.{fskRxStatsRsp, fskRxStatsRead, fskPacketStatusRsp, fskPacketStatusRead};
 use frame::byte_at;
@@ -8,7 +8,7 @@ use status::Status;
 use status::half;
 use status::word_at;
 
-// Counts of what was received.
+// Counts since the last reset: packets, of these with a wrong CRC and with a wrong length, detections, good and failed syncwords, time-outs.
 pub struct FskRxStatsRsp {
     pub status: Status,
     pub pkt_rx: u16,
@@ -60,7 +60,8 @@ impl FskRxStatsRsp {
     }
 }
 
-// What the last packet was received with; lqi counts quarter dB.
+// What the last packet was received with. pkt_len counts bytes, those that are added in the FIFO among them; the levels are in halves of a dBm
+// below zero, the average and that after the syncword; lqi, the quality of the link, is in quarters of a dB.
 pub struct FskPacketStatusRsp {
     pub status: Status,
     pub pkt_len: u16,

@@ -1,12 +1,14 @@
--- The exact widths of `LoraBw`, its order, and what the coding rates are. Document 01, "Readers", and the enum methods of the Rust.
+-- The exact widths of `LoraBw` (REFERENCE, "Widths"), its order, and what the coding rates are, as the methods of the Rust's enums give them.
 -- Assumes nothing.
 use Prim.Native.Nat.{ℕ, _/_}
 use mathlib.Core.Bool.{Bool, true, false, cond}
 use lib.Dec.{ltb, eqb}
 use Rattle.cmd_lora.specs.declared.LoraBw.{LoraBw}
-use Rattle.cmd_lora.specs.declared.LoraBw.the-variants.{Bw7, Bw15, Bw31, Bw62, Bw125, Bw250, Bw500, Bw1000, Bw10, Bw20, Bw41, Bw83, Bw101, Bw203, Bw406, Bw812}
+use Rattle.cmd_lora.specs.declared.LoraBw.the-variants.{Bw7, Bw15, Bw31, Bw62, Bw125, Bw250, Bw500, Bw1000}
+use Rattle.cmd_lora.specs.declared.LoraBw.the-variants.{Bw10, Bw20, Bw41, Bw83, Bw101, Bw203, Bw406, Bw812}
 use Rattle.cmd_lora.specs.declared.LoraCr.{LoraCr}
-use Rattle.cmd_lora.specs.declared.LoraCr.the-variants.{NoCoding, Cr1Ham45Si, Cr2Ham23Si, Cr3Ham47Si, Cr4Ham12Si, Cr5Ham45Li, Cr6Ham23Li, Cr7Ham12Li, Cr8Cc23, Cr9Cc12}
+use Rattle.cmd_lora.specs.declared.LoraCr.the-variants.{NoCoding, Cr1Ham45Si, Cr2Ham23Si, Cr3Ham47Si, Cr4Ham12Si}
+use Rattle.cmd_lora.specs.declared.LoraCr.the-variants.{Cr5Ham45Li, Cr6Ham23Li, Cr7Ham12Li, Cr8Cc23, Cr9Cc12}
 use Rattle.cmd_lora.specs.declared.Ordering.{Ordering}
 use Rattle.cmd_lora.specs.declared.Ordering.the-variants.{Less, Equal, Greater}
 
@@ -18,7 +20,7 @@ pub record Width : Type 0 where
 abbrev pub over : ℕ → ℕ → Width
 over n d = record { hz = n; parts = d }
 
--- "Bw101 is 101,562.5 Hz, Bw83 is 1,000,000/12, and Bw41, Bw20, Bw10 each half the one before; Bw7 is 7,812.5 Hz"; the rest are whole
+-- Bw83 is a twelfth of a MHz, and Bw41, Bw20 and Bw10 go on by halves; Bw7 and Bw101 end in half a Hz; the others are whole numbers of Hz
 abbrev pub exactWidth : LoraBw → Width
 exactWidth Bw7 = over 15625 2
 exactWidth Bw15 = over 15625 1
@@ -37,7 +39,7 @@ exactWidth Bw203 = over 203125 1
 exactWidth Bw406 = over 406250 1
 exactWidth Bw812 = over 812500 1
 
--- "`LoraBw::to_hz` is the exact width rounded down"
+-- in whole Hz, rounded down
 abbrev pub hzOf : LoraBw → ℕ
 hzOf w = exactWidth w .hz / exactWidth w .parts
 

@@ -1,5 +1,4 @@
--- The responses to the LoRa commands, as document 01 lists them: "Responses, status first ("n:b" is twice byte n plus bit b)".
--- Any other length is refusal 7, "response length not the stated one".
+-- The responses to the LoRa commands: where each field stands behind the status (REFERENCE, "Responses"). Another length is refused.
 -- Assumes nothing.
 use Prim.Native.Nat.{ℕ}
 use mathlib.Core.Bool.{cond}
@@ -18,11 +17,11 @@ use Rattle.cmd_lora.specs.declared.rsp.LoraPacketStatusRsp.{LoraPacketSt
 use Rattle.cmd_lora.specs.declared.rsp.LoraPacketStatusRead.{LoraPacketStatusRead}
 use Rattle.cmd_lora.specs.declared.rsp.LoraPacketStatusRead.the-variants as loraPacketStatus
 
--- "an SNR quarter dB with a sign"
+-- a byte in two's complement
 unfoldable pub snr : ℕ → QuarterDb
 snr b = record { 0 = signedOf b }
 
--- "LoraRxStatsRsp 12 bytes: pkt_rx 2-3, crc_error 4-5, header_error 6-7, detection 8-9, false_sync 10-11"
+-- twelve bytes: five counts of 16 bits
 unfoldable pub loraRxStatsRsp : List ℕ → LoraRxStatsRsp
 loraRxStatsRsp b =
     record {
@@ -37,7 +36,7 @@ loraRxStatsRsp b =
 abbrev pub loraRxStatsRead : List ℕ → LoraRxStatsRead
 loraRxStatsRead b = cond (eqb (length b) 12) (loraRxStats.Rsp (loraRxStatsRsp b)) (loraRxStats.Refused ResponseLength)
 
--- "LoraPacketStatusRsp 8: crc 2.4, coding_rate 2.3-0, pkt_length 3, snr_pkt 4 signed, rssi_pkt 5:7.1, rssi_signal_pkt 6:7.0, detector 7.5-2"
+-- eight bytes; the last bits of both levels are in byte 7
 unfoldable pub loraPacketStatusRsp : List ℕ → LoraPacketStatusRsp
 loraPacketStatusRsp b =
     record {

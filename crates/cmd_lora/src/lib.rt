@@ -2,7 +2,8 @@
 ghost use mathlib.Core.Path.{_≡_};
 ghost use mathlib.Core.List.{[], _∷_};
 ghost use Rattle.table.specs.Table.{plain, yesNo};
-ghost use Rattle.cmd_lora.specs.Codes.{sfCode, loraBwCode, loraCrCode, ldroCode, loraFilterCode, headerTypeCode, timeoutFormatCode, loraCadExitModeCode, addrLenCode, timingSyncModeCode};
+ghost use Rattle.cmd_lora.specs.Codes.{sfCode, loraBwCode, loraCrCode, ldroCode, loraFilterCode};
+ghost use Rattle.cmd_lora.specs.Codes.{headerTypeCode, timeoutFormatCode, loraCadExitModeCode, addrLenCode, timingSyncModeCode};
 ghost use Rattle.cmd_lora.specs.Methods.{hzOf, isFractional, isLi, denominatorOf, ordered};
 use table::OPCODE;
 use table::put_plain;
@@ -422,7 +423,7 @@ pub fn set_lora_packet_params_cmd(
     cmd
 }
 
-// Kind 3. How many symbols a detection may take.
+// Kind 3. How many symbols a detection may take, as a number or as mantissa and exponent; 0 for no limit.
 pub fn set_lora_synch_timeout_cmd(symbols: u8, timeout_format: TimeoutFormat) -> [u8; 4]
     ensures { λ r. ⌜ r ≡ plain 3 (symbols ∷ timeoutFormatCode «timeout_format» ∷ []) ⌝ }
 {
@@ -433,7 +434,7 @@ pub fn set_lora_synch_timeout_cmd(symbols: u8, timeout_format: TimeoutFormat) ->
     cmd
 }
 
-// Kind 4. The LoRa syncword: 0x12 private, 0x34 public.
+// Kind 4. The LoRa syncword: 0x12 in private networks, and where none is set; 0x34 in public ones.
 pub fn set_lora_syncword_cmd(syncword: u8) -> [u8; 3]
     ensures { λ r. ⌜ r ≡ plain 4 (syncword ∷ []) ⌝ }
 {

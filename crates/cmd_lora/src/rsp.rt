@@ -1,4 +1,4 @@
-// The responses to the LoRa commands, as the fields that they hold. specs/Responses.antt has document 01's lines.
+// The responses to the LoRa commands, as the fields that they hold. specs/Responses.antt has the places.
 ghost use mathlib.Core.Path.{_≡_};
 ghost use Rattle.cmd_lora.specs.Responses.{snr, loraRxStatsRsp, loraRxStatsRead, loraPacketStatusRsp, loraPacketStatusRead};
 use frame::byte_at;
@@ -16,7 +16,7 @@ fn snr(b: u8) -> QuarterDb
     QuarterDb::from_byte(b)
 }
 
-// Counts of what was received.
+// Counts since the last reset: packets, of these with a wrong CRC and with a wrong header, detected preambles, false synchronizations.
 pub struct LoraRxStatsRsp {
     pub status: Status,
     pub pkt_rx: u16,
@@ -64,7 +64,9 @@ impl LoraRxStatsRsp {
     }
 }
 
-// What the last packet was received with; detector has a bit for each path that received it, the main one lowest.
+// What the last packet was received with. Its CRC (a yes or no) and coding rate come from its header, or from the setting where it has none;
+// pkt_length counts bytes; the ratio is in quarters of a dB, the levels in halves of a dBm below zero, that of the signal after despreading.
+// detector has a bit for each path that received it: main, side 1, side 2, side 3 from bit 0 on.
 pub struct LoraPacketStatusRsp {
     pub status: Status,
     pub crc: bool,

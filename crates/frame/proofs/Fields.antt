@@ -233,17 +233,6 @@ pub checked-reads : (len : ℕ) (fs : List Field) (vs : List ℕ) → T (layout 
     → reads fs (bytes (tab len (byteOf fs vs))) ≡ vs
 checked-reads len fs vs t e h = values-back len fs vs t e ∙ cut-fitting fs vs h
 
--- the decoder's test: packing what it read gives the same frame
-pub checked-same : (len : ℕ) (fs : List Field) (vs : List ℕ) → T (layout len fs) → length vs ≡ length fs → T (fitting fs vs)
-    → tab len (byteOf fs (reads fs (bytes (tab len (byteOf fs vs))))) ≡ tab len (byteOf fs vs)
-checked-same len fs vs t e h = ap (λ (l : List ℕ). tab len (byteOf fs l)) (checked-reads len fs vs t e h)
-
--- two lists of values that fit and give one frame are one list
-pub checked-one : (len : ℕ) (fs : List Field) (vs us : List ℕ) → T (layout len fs) → length vs ≡ length fs → length us ≡ length fs
-    → T (fitting fs vs) → T (fitting fs us) → tab len (byteOf fs vs) ≡ tab len (byteOf fs us) → vs ≡ us
-checked-one len fs vs us t e e′ h h′ q =
-    sym (checked-reads len fs vs t e h) ∙ ap (λ (l : List ℕ). reads fs (bytes l)) q ∙ checked-reads len fs us t e′ h′
-
 -- what the decoder reads fits
 pub reads-fit : (fs : List Field) (b : ℕ → ℕ) → T (fitting fs (reads fs b))
 unfolding reads fitting

@@ -2,5 +2,5 @@ pub mod Bits
 pub mod OneField
 pub mod Fields
 pub mod Puts
-pub mod Steps
+pub mod Bytewise
 pub mod Outcome

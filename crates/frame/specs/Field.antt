@@ -1,8 +1,8 @@
 -- One field of a frame: which bits of which bytes it holds, what a value puts there, and the number that stands there.
--- Document 01: "Byte 0 and 1 are the opcode. "4.3-0" is byte 4, bits 3 to 0; "2-3" is whole bytes, high byte first."
+-- (REFERENCE, "Commands", has the notation of places: 2.7-4 is bits 7 to 4 of byte 2, and 5-7 the bytes 5 to 7, the highest first.)
 -- A field is w bits wide and starts in byte `first`. One of at most 8 bits stands at bit `lo` of that byte. A wider one has lo 0
 -- and takes the bytes from `first` on, high byte first, or low byte first where `le`; its highest byte holds what is left of w.
--- "2.7-4" is first 2, lo 4, w 4; "5-7" is first 5, lo 0, w 24; the low 12 bits of "2-3" are first 2, lo 0, w 12.
+-- 2.7-4 is first 2, lo 4, w 4; 5-7 is first 5, lo 0, w 24; the low 12 bits of 2-3 are first 2, lo 0, w 12.
 -- Lists of fields are in specs/Layout.antt.
 -- Assumes nothing.
 use Prim.Native.Nat.{ℕ, zero, suc, _+_, _-_, _*_, _/_, _%_, _^_, _≤_, min}

@@ -5,7 +5,7 @@ ghost use Prim.Native.Nat.{_+_, _-_, _*_, _/_, _%_, _^_, _≤_, _<_};
 ghost use Rattle.frame.specs.Field.{size, rank, place, bits, part, read, sound, Sound};
 ghost use Rattle.frame.specs.Layout.{bytes, put, get};
 
-// "2.7-4" is first 2, lo 4, w 4; "5-7" is first 5, lo 0, w 24; le: the low byte stands first.
+// Bits 7 to 4 of byte 2 are first 2, lo 4, w 4; bytes 5 to 7 are first 5, lo 0, w 24. With le the low byte stands first.
 pub struct Field {
     pub first: usize,
     pub lo: usize,

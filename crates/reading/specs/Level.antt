@@ -1,4 +1,4 @@
--- What readings print as, and the difference of two readings of a counter: document 01, "Readers".
+-- What readings print as (REFERENCE, "Levels and ratios"), and the difference of two readings of a counter (REFERENCE, "Counters").
 -- Assumes nothing.
 use Prim.Native.Nat.{ℕ, _+_, _*_, _-_, _/_, _%_}
 use mathlib.Core.Bool.{Bool, cond}
@@ -10,26 +10,26 @@ use lib.ListN.{length, take, replicate}
 use Rattle.reading.specs.Decimal.{digit, decimal}
 use Rattle.reading.specs.declared.Text.{Text}
 
--- "an SNR quarter dB with a sign": the bytes 128 to 255 stand for -128 to -1
+-- a signal-to-noise ratio comes as a byte in two's complement: 128 to 255 stand for -128 to -1
 abbrev pub signedOf : ℕ → ℤ
 signedOf b = cond (ltb b 128) (pos b) (negsuc (255 - b))
 
--- "a minus only below zero"; 45 is '-'
+-- a minus stands before what is below zero, and nowhere else; 45 is '-'
 abbrev pub minus : Bool → List ℕ
 minus below = cond below (45 ∷ []) []
 
--- "the texts have one and two decimals": t tenths and h hundredths, of which nothing is rounded; 46 is '.'
+-- t tenths with one decimal, h hundredths with two: every digit is there, so nothing is rounded; 46 is '.'
 unfoldable pub tenths : ℕ → List ℕ
 tenths t = decimal (t / 10) ++ (46 ∷ digit t ∷ [])
 
 unfoldable pub hundredths : ℕ → List ℕ
 hundredths h = decimal (h / 100) ++ (46 ∷ digit (h / 10) ∷ digit h ∷ [])
 
--- "An RSSI counts half dBm downward", "Printed level: -5 × count in tenths of dBm"
+-- a level is so many halves of a dBm below zero: 5 tenths for each
 unfoldable pub rssiText : ℕ → List ℕ
 rssiText count = minus (ltb 0 count) ++ tenths (5 * count)
 
--- "Printed SNR: 25 × count in hundredths"
+-- a ratio is so many quarters of a dB: 25 hundredths for each
 unfoldable pub snrText : ℤ → List ℕ
 snrText count = minus (ltZ count (pos 0)) ++ hundredths (25 * natAbs count)
 
@@ -38,6 +38,6 @@ snrText count = minus (ltZ count (pos 0)) ++ hundredths (25 * natAbs count)
 unfoldable pub textOf : List ℕ → Text
 textOf l = record { bytes = take 8 (l ++ replicate 8 0); len = length (take 8 l) }
 
--- "The difference of two readings of a 16-bit counter is later minus earlier, modulo 65,536."
+-- how far a counter of 16 bits went on: it is 0 again after 65,535
 abbrev pub counterDifference : ℕ → ℕ → ℕ
 counterDifference earlier later = (later + 65536 - earlier) % 65536

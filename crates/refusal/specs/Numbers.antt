@@ -1,40 +1,42 @@
--- The refusals' numbers and places. Document 01, "Refusal numbers".
+-- The refusals' numbers and places, and when each is given (REFERENCE, "Refusals").
 -- Assumes nothing.
 use Prim.Native.Nat.{ℕ}
 use Rattle.refusal.specs.declared.Refusal.{Refusal}
-use Rattle.refusal.specs.declared.Refusal.the-variants.{ShortFrame, UnknownOpcode, WrongLength, StrayBit, UnknownCode, ArgumentOutside, ResponseLength, NoRoom, NotHeld, NotWellFormed, BufferSize, OutputShort, NotAKind, ReelCut}
+use Rattle.refusal.specs.declared.Refusal.the-variants.{ShortFrame, UnknownOpcode, WrongLength, StrayBit, UnknownCode}
+use Rattle.refusal.specs.declared.Refusal.the-variants.{ArgumentOutside, ResponseLength, NoRoom, NotHeld, NotWellFormed}
+use Rattle.refusal.specs.declared.Refusal.the-variants.{BufferSize, OutputShort, NotAKind, ReelCut}
 
 abbrev pub numberOf : Refusal → ℕ
--- "frame under 2 bytes"
+-- a frame too short to hold an opcode
 numberOf ShortFrame = 1
--- "opcode not in the table"
+-- no command has the opcode
 numberOf UnknownOpcode = 2
--- "length not one of that opcode's"
+-- commands have the opcode, and none has the length
 numberOf WrongLength = 3
--- "a bit that no field holds is set"
+-- a bit is 1 that belongs to no field
 numberOf (StrayBit at) = 4
--- "a field holds a code its enum lacks"
+-- a field of an enum holds a number that is no value of it
 numberOf (UnknownCode at) = 5
--- "checked builder: argument outside its range"
+-- an argument of a builder that its field or its enum does not have, or one too few or too many
 numberOf (ArgumentOutside at) = 6
--- "response length not the stated one"
+-- a response of another length than its own
 numberOf ResponseLength = 7
--- "frames plus 62 would exceed the buffer"
+-- the book has no room for the frame
 numberOf NoRoom = 8
--- "kind not held"
+-- the book holds no frame of the kind
 numberOf NotHeld = 9
--- "book bytes not well formed"
+-- the bytes lent are no book
 numberOf NotWellFormed = 10
--- "buffer not 62 to 4,096 bytes"
+-- the buffer lent is too short or too long for a book
 numberOf BufferSize = 11
--- "output shorter than needed"
+-- the output lent is too short for the answer
 numberOf OutputShort = 12
--- "kind not a setting, or not 1 to 39"
+-- no kind has the number, or the kind is an action where a setting is asked for
 numberOf NotAKind = 13
--- "reel ends inside a frame, or the place is past its end"
+-- the reel ends before the frame does, or the place lies past its end
 numberOf ReelCut = 14
 
--- "A refusal carries a place: 4 and 5 the lowest such byte, 6 the first such argument counted from 1, others 0."
+-- where: the lowest such byte of the frame, counted from 0; of arguments the first, counted from 1; 0 where there is no place to name
 abbrev pub placeOf : Refusal → ℕ
 placeOf (StrayBit at) = at
 placeOf (UnknownCode at) = at

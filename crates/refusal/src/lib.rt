@@ -1,4 +1,4 @@
-// Why a call is refused: one enum for the whole library. specs/Refusal.antt has document 01's numbers and places.
+// Why a call is refused: one enum for the whole library. specs/Numbers.antt has the numbers and places, and says when each is given.
 ghost use mathlib.Core.Path.{_≡_};
 ghost use Rattle.refusal.specs.Numbers.{numberOf, placeOf};
 
@@ -21,7 +21,7 @@ pub enum Refusal {
 }
 
 impl Refusal {
-    // Document 01's number, 1 to 14.
+    // Its number, 1 to 14.
     pub fn number(self) -> u32
         ensures { λ r. ⌜ r ≡ numberOf self ⌝ }
     {

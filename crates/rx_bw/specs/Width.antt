@@ -1,5 +1,5 @@
--- The rule of the RxBw table. Document 01: "An RxBw table of 256 numbers gives each code byte's name in tenths of kHz, 0 where no name is
--- listed or for `BwAuto`." Which codes are listed says specs/Codes.antt of the table.
+-- The rule of the RxBw table (REFERENCE, "Widths"): the width that a code names, in tenths of kHz; 0 for a code that names none.
+-- Which codes there are says specs/Codes.antt of the table.
 -- Assumes nothing.
 use Prim.Native.Nat.{ℕ, _+_, _*_, _/_, _%_, _^_}
 use mathlib.Core.Bool.{Bool, cond, _&&_}
@@ -8,11 +8,11 @@ use lib.Dec.{ltb, leb}
 use lib.ListN.{getD}
 use Rattle.table.specs.Codes.{rxBwCodes, isIn}
 
--- "exact width is 40000/(m·d·2^e) kHz, m = 13, 14, 15, 18 by bits 7-6, d = bits 5-3 plus 1, e = bits 2-0": the divisor
+-- a width is 40,000 kHz by a divisor: bits 7 and 6 choose its first factor, bits 5 to 3 count the second from 1, bits 2 to 0 double
 abbrev pub divisor : ℕ → ℕ
 divisor c = getD (13 ∷ 14 ∷ 15 ∷ 18 ∷ []) (c / 64) 0 * (c / 8 % 8 + 1) * 2 ^ (c % 8)
 
--- "From 10 kHz up the name drops the fraction; below, it is the nearest tenth.": the width 40000/q kHz in tenths
+-- the name of the width 40,000/q kHz, in tenths: whole kHz, rounded down, from 10 kHz on, and rounded to the tenth below
 abbrev pub tenths : ℕ → ℕ
 tenths q = cond (leb (10 * q) 40000) (10 * (40000 / q)) ((800000 + q) / (2 * q))
 

@@ -6,8 +6,8 @@ use Rattle.status.proofs as status
 word-at-once : Once status.word_at.ended status.word_at.Reads.Pre status.word_at.Reads.Learnt
 word-at-once κs a h o u p q i = (same p q i, o .1)
 
-long-once : Once status.long.ended status.long.Reads.Pre status.long.Reads.Learnt
-long-once κs a h o u p q i = (same p q i, o .1)
+u32-of-once : Once status.u32_of.ended status.u32_of.Reads.Pre status.u32_of.Reads.Learnt
+u32-of-once κs a h o u p q i = (same p q i, o .1)
 
 half-once : Once status.half.ended status.half.Reads.Pre status.half.Reads.Learnt
 half-once κs a h o u p q i = (same p q i, o .1)

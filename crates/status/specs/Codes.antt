@@ -1,4 +1,5 @@
--- The numbers of the status enums. Document 01, "Readers"; the numbers are those in the Rust.
+-- The numbers of the status enums, and what a number says (REFERENCE, "Status and interrupts"). `Unknown` has a number of its own, past those
+-- that the bits can hold.
 -- Assumes nothing.
 use Prim.Native.Nat.{ℕ}
 use mathlib.Core.Bool.{Bool, true, false}
@@ -39,22 +40,20 @@ modeCode mode.Rx = 4
 modeCode mode.Tx = 5
 modeCode mode.Unknown = 8
 
--- What a number says, by its place in a list.
--- "0 to 3 Fail, PErr, Ok, Data, 4 to 7 Unknown"
+-- What a number says, by its place in a list; a number past the list says `Unknown`.
 abbrev pub cmds : List CmdStatus
 cmds = cmd.Fail ∷ cmd.PErr ∷ cmd.Ok ∷ cmd.Data ∷ []
 
 abbrev pub cmdOf : ℕ → CmdStatus
 cmdOf n = getD cmds n cmd.Unknown
 
--- "0, 1, 2, 4, 5, 6 are named, others Unknown"
+-- 3 has no name
 abbrev pub resets : List ResetSrc
 resets = reset.Cleared ∷ reset.Analog ∷ reset.External ∷ reset.Unknown ∷ reset.Watchdog ∷ reset.Iocd ∷ reset.Rtc ∷ []
 
 abbrev pub resetOf : ℕ → ResetSrc
 resetOf n = getD resets n reset.Unknown
 
--- "0 to 5 named, 6 and 7 Unknown"
 abbrev pub modes : List ChipModeStatus
 modes = mode.Sleep ∷ mode.Rc ∷ mode.Xosc ∷ mode.Fs ∷ mode.Rx ∷ mode.Tx ∷ []
 

@@ -1,4 +1,4 @@
--- Document 01's short notation for what stands in bytes, as numbers: a byte that is not there is 0.
+-- The notation of places in bytes (REFERENCE, "Responses"), as numbers: a byte that is not there is 0.
 -- Assumes nothing.
 use Prim.Native.Nat.{ℕ, zero, suc, _+_, _*_, _-_, _/_, _%_, _^_}
 use mathlib.Core.Bool.{Bool, not}
@@ -20,8 +20,7 @@ field w hi lo = above w lo % 2 ^ (hi + 1 - lo)
 abbrev pub raised : ℕ → ℕ → Bool
 raised v mask = not (eqb (bitAnd v mask) 0)
 
--- whether bit n of v is set: "Bit 8 is the interrupt", and in an Intr
--- "The accessors of Intr from rx_fifo to rng_timeout stand in bit order 0 to 31"
+-- whether bit n of v is set: in a status bit 8 says that an interrupt is pending, and in an Intr each accessor has a bit of its own
 abbrev pub isSet : ℕ → ℕ → Bool
 isSet v n = raised v (2 ^ n)
 
@@ -39,18 +38,18 @@ abbrev pub from : List ℕ → ℕ → ℕ → ℕ
 from b a zero = byte b a
 from b a (suc more) = 256 * from b a more + byte b (a + suc more)
 
--- "a-e": whole bytes, high byte first
+-- a-e: the bytes from a to e, the highest first
 abbrev pub wide : List ℕ → ℕ → ℕ → ℕ
 wide b a e = from b a (e - a)
 
--- "n.hi-lo": bits hi to lo of byte n
+-- n.hi-lo: bits hi to lo of byte n
 abbrev pub bits : List ℕ → ℕ → ℕ → ℕ → ℕ
 bits b n hi lo = field (byte b n) hi lo
 
--- "n.i": bit i of byte n, as a yes or no
+-- n.i: bit i of byte n, as a yes or no
 abbrev pub bit : List ℕ → ℕ → ℕ → Bool
 bit b n i = isSet (byte b n) i
 
--- "n:m.i": twice byte n plus bit i of byte m
+-- n:m.i: a level's count, whose halves are in byte n and whose last bit is bit i of byte m
 abbrev pub half : List ℕ → ℕ → ℕ → ℕ → ℕ
 half b n m i = 2 * byte b n + bits b m i i

@@ -1,4 +1,4 @@
-// The device status and the interrupts, read from the bytes that the chip sends. specs/ has document 01's numbers and bits.
+// The device status and the interrupts, read from the bytes that the chip sends. specs/ has their numbers and bits.
 // The command crates read their responses with the functions that stand first.
 ghost use mathlib.Core.Path.{_≡_};
 ghost use mathlib.Core.List.{[], _∷_};
@@ -10,7 +10,7 @@ ghost use Rattle.status.specs.Words.{statusOf, intr, intrOf, cmdIn, rese
 use frame::byte_at;
 
 // Two bytes as one number, high byte first.
-fn word(high: u8, low: u8) -> u16
+fn u16_of(high: u8, low: u8) -> u16
     ensures { λ r. ⌜ r ≡ 256 * high + low ⌝ }
 {
     256 * (high as u16) + low as u16
@@ -21,14 +21,14 @@ pub fn word_at(s: &[u8], i: usize) -> u16
     ensures { λ r. ⌜ r ≡ 256 * byte (now (s .entry)) i + byte (now (s .entry)) (i + 1) ⌝ }
 {
     if i < s.len() {
-        word(byte_at(s, i), byte_at(s, i + 1))
+        u16_of(byte_at(s, i), byte_at(s, i + 1))
     } else {
         0
     }
 }
 
 // Four bytes as one number, high byte first.
-pub fn long(b0: u8, b1: u8, b2: u8, b3: u8) -> u32
+pub fn u32_of(b0: u8, b1: u8, b2: u8, b3: u8) -> u32
     ensures { λ r. ⌜ r ≡ 256 * (256 * (256 * b0 + b1) + b2) + b3 ⌝ }
 {
     256 * (256 * (256 * (b0 as u32) + b1 as u32) + b2 as u32) + b3 as u32
@@ -364,7 +364,7 @@ impl Intr {
     pub fn from_slice(bytes: &[u8]) -> Intr
         ensures { λ r. ⌜ r ≡ intrOf (now (bytes .entry)) ⌝ }
     {
-        Intr(long(
+        Intr(u32_of(
             byte_at(bytes, 0),
             byte_at(bytes, 1),
             byte_at(bytes, 2),

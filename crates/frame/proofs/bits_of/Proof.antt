@@ -3,7 +3,7 @@ use Prim.Native.Nat.{ℕ, _-_, _*_, _/_, _%_, _^_, _<_, min}
 use native.Mathlib.Omega.{arith}
 use borrow.Author.Needs.{needs}
 use lib.Pow.{pow-pos}
-use Rattle.frame.proofs.Steps.{one-shl}
+use Rattle.frame.proofs.Bytewise.{one-shl}
 use Rattle.frame.proofs.bits_of.Statement.{statement}
 use Rattle.frame.proofs.bits_of.Tie as tie
 

@@ -5,7 +5,7 @@ use native.Mathlib.Omega.{arith}
 use borrow.Author.Needs.{needs}
 use Rattle.frame.specs.Field.{size, bits, readTo, read}
 use Rattle.frame.specs.Layout.{bytes}
-use Rattle.frame.proofs.Steps.{get-is, get-lt}
+use Rattle.frame.proofs.Bytewise.{get-is, get-lt}
 use Rattle.frame.proofs.get_sound.Statement.{statement}
 use Rattle.frame.proofs.get_sound.Tie as tie
 

@@ -1,6 +1,6 @@
 use native.Mathlib.Omega.{arith}
 use borrow.Author.Needs.{needs}
-use Rattle.frame.proofs.Steps.{rank-in, part-is, part-fits}
+use Rattle.frame.proofs.Bytewise.{rank-in, part-is, part-fits}
 use Rattle.frame.proofs.part_of.Statement.{statement}
 use Rattle.frame.proofs.part_of.Tie as tie
 

@@ -4,7 +4,7 @@ use native.Mathlib.Omega.{arith}
 use borrow.Author.Tests.{ltb-true, ltb-false}
 use lib.ListN.{length}
 use Rattle.frame.specs.Field.{size}
-use Rattle.frame.proofs.Steps.{Upto, upto-start, upto-step, upto-end}
+use Rattle.frame.proofs.Bytewise.{Upto, upto-start, upto-step, upto-end}
 use Rattle.frame.proofs.put_sound.Statement.{statement}
 use Rattle.frame.proofs.put_sound.Tie as tie
 
