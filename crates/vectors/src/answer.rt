@@ -1,6 +1,4 @@
-// An answer: eighty bytes, of which the first `len` are filled. What does not fit is left out.
-use crate::request::low8;
-
+// An answer: eighty bytes, of which the first `len` are filled. What does not fit is left out. Numbers go low byte first.
 pub struct Answer {
     pub bytes: [u8; 80],
     pub len: usize,
@@ -25,36 +23,40 @@ impl Answer {
         }
     }
 
+    // The low byte of a number.
+    pub fn low(self, x: u64) -> Answer {
+        self.byte((x % 256) as u8)
+    }
+
     pub fn flag(self, b: bool) -> Answer {
         if b { self.byte(1) } else { self.byte(0) }
     }
 
-    // Numbers go low byte first.
-    pub fn half(self, x: u16) -> Answer {
+    pub fn put_u16(self, x: u16) -> Answer {
         self.byte((x % 256) as u8).byte((x / 256) as u8)
     }
 
-    pub fn word(self, x: u32) -> Answer {
-        self.half((x % 65536) as u16).half((x / 65536) as u16)
+    pub fn put_u32(self, x: u32) -> Answer {
+        self.put_u16((x % 65536) as u16).put_u16((x / 65536) as u16)
     }
 
-    pub fn long(self, x: u64) -> Answer {
-        self.word((x % 4294967296) as u32)
-            .word((x / 4294967296) as u32)
+    pub fn put_u64(self, x: u64) -> Answer {
+        self.put_u32((x % 4294967296) as u32)
+            .put_u32((x / 4294967296) as u32)
     }
-}
 
-fn long(n: usize) -> u64 {
-    n as u64
+    pub fn bytes(self, s: &[u8]) -> Answer {
+        let mut a = self;
+        let mut i: usize = 0;
+        while i < s.len() {
+            a = a.byte(s[i]);
+            i += 1;
+        }
+        a
+    }
 }
 
 // A frame behind its length.
 pub fn framed(frame: &[u8]) -> Answer {
-    let mut a = Answer::new().byte(low8(long(frame.len())));
-    let mut i: usize = 0;
-    while i < frame.len() {
-        a = a.byte(frame[i]);
-        i += 1;
-    }
-    a
+    Answer::new().low(frame.len() as u64).bytes(frame)
 }

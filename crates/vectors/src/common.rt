@@ -1,10 +1,13 @@
 // The builders of cmd_common, kinds 24 to 39.
 use crate::answer::Answer;
 use crate::answer::framed;
-use crate::request::arg;
-use crate::request::low8;
-use crate::request::low16;
-use crate::request::low32;
+use crate::request::A0;
+use crate::request::A1;
+use crate::request::A2;
+use crate::request::A3;
+use crate::request::A4;
+use crate::request::byte;
+use crate::request::u32_at;
 use crate::request::yes;
 use cmd_common::AutoTxrxMode;
 use cmd_common::CadExitMode;
@@ -39,124 +42,121 @@ pub fn built(kind: u8, p: &[u8]) -> Answer {
 }
 
 fn kind_24(p: &[u8]) -> Answer {
-    let cmd = cmd_common::set_rf_frequency_cmd(low32(arg(p, 0)));
+    let cmd = cmd_common::set_rf_frequency_cmd(u32_at(p, A0));
     framed(&cmd)
 }
 
 fn kind_25(p: &[u8]) -> Answer {
-    let cmd = cmd_common::set_rx_path_cmd(rx_path(arg(p, 0)));
+    let cmd = cmd_common::set_rx_path_cmd(rx_path(p, A0));
     framed(&cmd)
 }
 
 fn kind_26(p: &[u8]) -> Answer {
-    let cmd = cmd_common::set_rx_path_adv_cmd(rx_path(arg(p, 0)), rx_boost(arg(p, 1)));
+    let cmd = cmd_common::set_rx_path_adv_cmd(rx_path(p, A0), rx_boost(p, A1));
     framed(&cmd)
 }
 
 fn kind_27(p: &[u8]) -> Answer {
     let cmd = cmd_common::set_pa_config_cmd(
-        pa_sel(arg(p, 0)),
-        pa_lf_mode(arg(p, 1)),
-        low8(arg(p, 2)),
-        low8(arg(p, 3)),
+        pa_sel(p, A0),
+        pa_lf_mode(p, A1),
+        byte(p, A2),
+        byte(p, A3),
     );
     framed(&cmd)
 }
 
 fn kind_28(p: &[u8]) -> Answer {
     let cmd = cmd_common::set_pa_config_adv_cmd(
-        pa_sel(arg(p, 0)),
-        pa_lf_mode(arg(p, 1)),
-        low8(arg(p, 2)),
-        low8(arg(p, 3)),
-        low8(arg(p, 4)),
+        pa_sel(p, A0),
+        pa_lf_mode(p, A1),
+        byte(p, A2),
+        byte(p, A3),
+        byte(p, A4),
     );
     framed(&cmd)
 }
 
 fn kind_29(p: &[u8]) -> Answer {
-    let cmd = cmd_common::set_rx_adv_cmd(low32(arg(p, 0)));
+    let cmd = cmd_common::set_rx_adv_cmd(u32_at(p, A0));
     framed(&cmd)
 }
 
 fn kind_30(p: &[u8]) -> Answer {
-    let cmd = cmd_common::set_tx_adv_cmd(low32(arg(p, 0)));
+    let cmd = cmd_common::set_tx_adv_cmd(u32_at(p, A0));
     framed(&cmd)
 }
 
 fn kind_31(p: &[u8]) -> Answer {
-    let cmd = cmd_common::sel_pa_cmd(pa_sel(arg(p, 0)));
+    let cmd = cmd_common::sel_pa_cmd(pa_sel(p, A0));
     framed(&cmd)
 }
 
 fn kind_32(p: &[u8]) -> Answer {
     let cmd = cmd_common::set_rx_duty_cycle_cmd(
-        low32(arg(p, 0)),
-        low32(arg(p, 1)),
-        yes(arg(p, 2)),
-        low8(arg(p, 3)),
+        u32_at(p, A0),
+        u32_at(p, A1),
+        yes(p, A2),
+        byte(p, A3),
     );
     framed(&cmd)
 }
 
 fn kind_33(p: &[u8]) -> Answer {
     let cmd = cmd_common::set_auto_rx_tx_cmd(
-        yes(arg(p, 0)),
-        auto_txrx_mode(arg(p, 1)),
-        low32(arg(p, 2)),
-        low32(arg(p, 3)),
+        yes(p, A0),
+        auto_txrx_mode(p, A1),
+        u32_at(p, A2),
+        u32_at(p, A3),
     );
     framed(&cmd)
 }
 
 fn kind_34(p: &[u8]) -> Answer {
-    let cmd = cmd_common::set_default_rx_tx_timeout_cmd(low32(arg(p, 0)), low32(arg(p, 1)));
+    let cmd = cmd_common::set_default_rx_tx_timeout_cmd(u32_at(p, A0), u32_at(p, A1));
     framed(&cmd)
 }
 
 fn kind_35(p: &[u8]) -> Answer {
-    let cmd = cmd_common::set_timestamp_source_cmd(
-        timestamp_index(arg(p, 0)),
-        timestamp_source(arg(p, 1)),
-    );
+    let cmd = cmd_common::set_timestamp_source_cmd(timestamp_index(p, A0), timestamp_source(p, A1));
     framed(&cmd)
 }
 
 fn kind_36(p: &[u8]) -> Answer {
-    let cmd = cmd_common::set_cca_cmd(low32(arg(p, 0)));
+    let cmd = cmd_common::set_cca_cmd(u32_at(p, A0));
     framed(&cmd)
 }
 
 fn kind_37(p: &[u8]) -> Answer {
-    let cmd = cmd_common::set_cca_adv_cmd(low32(arg(p, 0)), low8(arg(p, 1)));
+    let cmd = cmd_common::set_cca_adv_cmd(u32_at(p, A0), byte(p, A1));
     framed(&cmd)
 }
 
 fn kind_38(p: &[u8]) -> Answer {
-    let cmd = cmd_common::set_agc_gain_manual_cmd(low8(arg(p, 0)));
+    let cmd = cmd_common::set_agc_gain_manual_cmd(byte(p, A0));
     framed(&cmd)
 }
 
 fn kind_39(p: &[u8]) -> Answer {
     let cmd = cmd_common::set_cad_params_cmd(
-        low32(arg(p, 0)),
-        low8(arg(p, 1)),
-        exit_mode(arg(p, 2)),
-        low32(arg(p, 3)),
+        u32_at(p, A0),
+        byte(p, A1),
+        exit_mode(p, A2),
+        u32_at(p, A3),
     );
     framed(&cmd)
 }
 
-// The value of each code; the requests hold no other code, and the last arm takes the first name too.
-fn rx_path(code: u64) -> RxPath {
-    match code {
+// The value whose code stands at a place; the requests hold no other code, and the last arm takes the first name too.
+fn rx_path(p: &[u8], at: usize) -> RxPath {
+    match byte(p, at) {
         1 => RxPath::HfPath,
         _ => RxPath::LfPath,
     }
 }
 
-fn rx_boost(code: u64) -> RxBoost {
-    match code {
+fn rx_boost(p: &[u8], at: usize) -> RxBoost {
+    match byte(p, at) {
         1 => RxBoost::B1,
         2 => RxBoost::B2,
         3 => RxBoost::B3,
@@ -168,15 +168,15 @@ fn rx_boost(code: u64) -> RxBoost {
     }
 }
 
-fn pa_sel(code: u64) -> PaSel {
-    match code {
+fn pa_sel(p: &[u8], at: usize) -> PaSel {
+    match byte(p, at) {
         1 => PaSel::HfPa,
         _ => PaSel::LfPa,
     }
 }
 
-fn pa_lf_mode(code: u64) -> PaLfMode {
-    match code {
+fn pa_lf_mode(p: &[u8], at: usize) -> PaLfMode {
+    match byte(p, at) {
         1 => PaLfMode::LfPaFdm,
         2 => PaLfMode::LfPaHsmRfo1,
         3 => PaLfMode::LfPaHsmRfo2,
@@ -184,24 +184,24 @@ fn pa_lf_mode(code: u64) -> PaLfMode {
     }
 }
 
-fn auto_txrx_mode(code: u64) -> AutoTxrxMode {
-    match code {
+fn auto_txrx_mode(p: &[u8], at: usize) -> AutoTxrxMode {
+    match byte(p, at) {
         1 => AutoTxrxMode::Always,
         2 => AutoTxrxMode::RxOk,
         _ => AutoTxrxMode::Disable,
     }
 }
 
-fn timestamp_index(code: u64) -> TimestampIndex {
-    match code {
+fn timestamp_index(p: &[u8], at: usize) -> TimestampIndex {
+    match byte(p, at) {
         1 => TimestampIndex::Ts1,
         2 => TimestampIndex::Ts2,
         _ => TimestampIndex::Ts0,
     }
 }
 
-fn timestamp_source(code: u64) -> TimestampSource {
-    match code {
+fn timestamp_source(p: &[u8], at: usize) -> TimestampSource {
+    match byte(p, at) {
         1 => TimestampSource::TxDone,
         2 => TimestampSource::RxDone,
         3 => TimestampSource::Sync,
@@ -210,8 +210,8 @@ fn timestamp_source(code: u64) -> TimestampSource {
     }
 }
 
-fn exit_mode(code: u64) -> CadExitMode {
-    match code {
+fn exit_mode(p: &[u8], at: usize) -> CadExitMode {
+    match byte(p, at) {
         1 => CadExitMode::Tx,
         2 => CadExitMode::Rx,
         _ => CadExitMode::Fallback,

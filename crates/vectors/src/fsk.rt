@@ -1,10 +1,19 @@
 // The builders of cmd_fsk, kinds 16 to 23.
 use crate::answer::Answer;
 use crate::answer::framed;
-use crate::request::arg;
-use crate::request::low8;
-use crate::request::low16;
-use crate::request::low32;
+use crate::request::A0;
+use crate::request::A1;
+use crate::request::A2;
+use crate::request::A3;
+use crate::request::A4;
+use crate::request::A5;
+use crate::request::A6;
+use crate::request::A7;
+use crate::request::A8;
+use crate::request::byte;
+use crate::request::u16_at;
+use crate::request::u32_at;
+use crate::request::u64_at;
 use crate::request::yes;
 use cmd_fsk::AddrComp;
 use cmd_fsk::BitOrder;
@@ -33,46 +42,46 @@ pub fn built(kind: u8, p: &[u8]) -> Answer {
 
 fn kind_16(p: &[u8]) -> Answer {
     let cmd = cmd_fsk::set_fsk_modulation_params_cmd(
-        low32(arg(p, 0)),
-        pulse_shape(arg(p, 1)),
-        rx_bw(arg(p, 2)),
-        low32(arg(p, 3)),
+        u32_at(p, A0),
+        pulse_shape(p, A1),
+        rx_bw(p, A2),
+        u32_at(p, A3),
     );
     framed(&cmd)
 }
 
 fn kind_17(p: &[u8]) -> Answer {
     let cmd = cmd_fsk::set_fsk_packet_params_cmd(
-        low16(arg(p, 0)),
-        pbl_len_detect(arg(p, 1)),
-        yes(arg(p, 2)),
-        pld_len_unit(arg(p, 3)),
-        addr_comp(arg(p, 4)),
-        fsk_pkt_format(arg(p, 5)),
-        low16(arg(p, 6)),
-        crc(arg(p, 7)),
-        yes(arg(p, 8)),
+        u16_at(p, A0),
+        pbl_len_detect(p, A1),
+        yes(p, A2),
+        pld_len_unit(p, A3),
+        addr_comp(p, A4),
+        fsk_pkt_format(p, A5),
+        u16_at(p, A6),
+        crc(p, A7),
+        yes(p, A8),
     );
     framed(&cmd)
 }
 
 fn kind_18(p: &[u8]) -> Answer {
-    let cmd = cmd_fsk::set_fsk_whitening_params_cmd(whiten_type(arg(p, 0)), low16(arg(p, 1)));
+    let cmd = cmd_fsk::set_fsk_whitening_params_cmd(whiten_type(p, A0), u16_at(p, A1));
     framed(&cmd)
 }
 
 fn kind_19(p: &[u8]) -> Answer {
-    let cmd = cmd_fsk::set_fsk_crc_params_cmd(low32(arg(p, 0)), low32(arg(p, 1)));
+    let cmd = cmd_fsk::set_fsk_crc_params_cmd(u32_at(p, A0), u32_at(p, A1));
     framed(&cmd)
 }
 
 fn kind_20(p: &[u8]) -> Answer {
-    let cmd = cmd_fsk::set_fsk_sync_word_cmd(arg(p, 0), bit_order(arg(p, 1)), low8(arg(p, 2)));
+    let cmd = cmd_fsk::set_fsk_sync_word_cmd(u64_at(p, A0), bit_order(p, A1), byte(p, A2));
     framed(&cmd)
 }
 
 fn kind_21(p: &[u8]) -> Answer {
-    let cmd = cmd_fsk::set_fsk_address_cmd(low8(arg(p, 0)), low8(arg(p, 1)));
+    let cmd = cmd_fsk::set_fsk_address_cmd(byte(p, A0), byte(p, A1));
     framed(&cmd)
 }
 
@@ -86,9 +95,9 @@ fn kind_23() -> Answer {
     framed(&cmd)
 }
 
-// The value of each code; the requests hold no other code, and the last arm takes the first name too.
-fn pulse_shape(code: u64) -> PulseShape {
-    match code {
+// The value whose code stands at a place; the requests hold no other code, and the last arm takes the first name too.
+fn pulse_shape(p: &[u8], at: usize) -> PulseShape {
+    match byte(p, at) {
         1 => PulseShape::Custom,
         4 => PulseShape::Bt0p3,
         5 => PulseShape::Bt0p5,
@@ -108,8 +117,8 @@ fn pulse_shape(code: u64) -> PulseShape {
     }
 }
 
-fn rx_bw(code: u64) -> RxBw {
-    match code {
+fn rx_bw(p: &[u8], at: usize) -> RxBw {
+    match byte(p, at) {
         0 => RxBw::Bw3076,
         64 => RxBw::Bw2857,
         128 => RxBw::Bw2666,
@@ -204,8 +213,8 @@ fn rx_bw(code: u64) -> RxBw {
     }
 }
 
-fn pbl_len_detect(code: u64) -> PblLenDetect {
-    match code {
+fn pbl_len_detect(p: &[u8], at: usize) -> PblLenDetect {
+    match byte(p, at) {
         8 => PblLenDetect::Len8Bits,
         16 => PblLenDetect::Len16Bits,
         24 => PblLenDetect::Len24Bits,
@@ -214,23 +223,23 @@ fn pbl_len_detect(code: u64) -> PblLenDetect {
     }
 }
 
-fn pld_len_unit(code: u64) -> PldLenUnit {
-    match code {
+fn pld_len_unit(p: &[u8], at: usize) -> PldLenUnit {
+    match byte(p, at) {
         1 => PldLenUnit::Bits,
         _ => PldLenUnit::Bytes,
     }
 }
 
-fn addr_comp(code: u64) -> AddrComp {
-    match code {
+fn addr_comp(p: &[u8], at: usize) -> AddrComp {
+    match byte(p, at) {
         1 => AddrComp::Node,
         2 => AddrComp::NodeBcast,
         _ => AddrComp::Off,
     }
 }
 
-fn fsk_pkt_format(code: u64) -> FskPktFormat {
-    match code {
+fn fsk_pkt_format(p: &[u8], at: usize) -> FskPktFormat {
+    match byte(p, at) {
         1 => FskPktFormat::Variable8bit,
         2 => FskPktFormat::Variable9bit,
         3 => FskPktFormat::Variable16bit,
@@ -238,8 +247,8 @@ fn fsk_pkt_format(code: u64) -> FskPktFormat {
     }
 }
 
-fn crc(code: u64) -> Crc {
-    match code {
+fn crc(p: &[u8], at: usize) -> Crc {
+    match byte(p, at) {
         1 => Crc::Crc1Byte,
         2 => Crc::Crc2Byte,
         3 => Crc::Crc3Byte,
@@ -252,15 +261,15 @@ fn crc(code: u64) -> Crc {
     }
 }
 
-fn whiten_type(code: u64) -> WhitenType {
-    match code {
+fn whiten_type(p: &[u8], at: usize) -> WhitenType {
+    match byte(p, at) {
         1 => WhitenType::Sx128x,
         _ => WhitenType::Sx126xLr11xx,
     }
 }
 
-fn bit_order(code: u64) -> BitOrder {
-    match code {
+fn bit_order(p: &[u8], at: usize) -> BitOrder {
+    match byte(p, at) {
         1 => BitOrder::MsbFirst,
         _ => BitOrder::LsbFirst,
     }

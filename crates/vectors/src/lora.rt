@@ -1,10 +1,19 @@
 // The builders of cmd_lora, kinds 1 to 15.
 use crate::answer::Answer;
 use crate::answer::framed;
-use crate::request::arg;
-use crate::request::low8;
-use crate::request::low16;
-use crate::request::low32;
+use crate::request::A0;
+use crate::request::A1;
+use crate::request::A2;
+use crate::request::A3;
+use crate::request::A4;
+use crate::request::A5;
+use crate::request::A6;
+use crate::request::A7;
+use crate::request::A8;
+use crate::request::byte;
+use crate::request::u16_at;
+use crate::request::u32_at;
+use crate::request::u64_at;
 use crate::request::yes;
 use cmd_lora::AddrLen;
 use cmd_lora::HeaderType;
@@ -41,69 +50,69 @@ pub fn built(kind: u8, p: &[u8]) -> Answer {
 
 fn kind_1(p: &[u8]) -> Answer {
     let cmd = cmd_lora::set_lora_modulation_params_cmd(
-        sf(arg(p, 0)),
-        lora_bw(arg(p, 1)),
-        lora_cr(arg(p, 2)),
-        ldro(arg(p, 3)),
-        lora_filter(arg(p, 4)),
+        sf(p, A0),
+        lora_bw(p, A1),
+        lora_cr(p, A2),
+        ldro(p, A3),
+        lora_filter(p, A4),
     );
     framed(&cmd)
 }
 
 fn kind_2(p: &[u8]) -> Answer {
     let cmd = cmd_lora::set_lora_packet_params_cmd(
-        low16(arg(p, 0)),
-        low8(arg(p, 1)),
-        header_type(arg(p, 2)),
-        yes(arg(p, 3)),
-        yes(arg(p, 4)),
+        u16_at(p, A0),
+        byte(p, A1),
+        header_type(p, A2),
+        yes(p, A3),
+        yes(p, A4),
     );
     framed(&cmd)
 }
 
 fn kind_3(p: &[u8]) -> Answer {
-    let cmd = cmd_lora::set_lora_synch_timeout_cmd(low8(arg(p, 0)), timeout_format(arg(p, 1)));
+    let cmd = cmd_lora::set_lora_synch_timeout_cmd(byte(p, A0), timeout_format(p, A1));
     framed(&cmd)
 }
 
 fn kind_4(p: &[u8]) -> Answer {
-    let cmd = cmd_lora::set_lora_syncword_cmd(low8(arg(p, 0)));
+    let cmd = cmd_lora::set_lora_syncword_cmd(byte(p, A0));
     framed(&cmd)
 }
 
 fn kind_5(p: &[u8]) -> Answer {
     let cmd = cmd_lora::config_lora_preamble_modulation_cmd(
-        yes(arg(p, 0)),
-        low8(arg(p, 1)),
-        low16(arg(p, 2)),
-        low32(arg(p, 3)),
+        yes(p, A0),
+        byte(p, A1),
+        u16_at(p, A2),
+        u32_at(p, A3),
     );
     framed(&cmd)
 }
 
 fn kind_6(p: &[u8]) -> Answer {
     let cmd = cmd_lora::config_lora_preamble_modulation_adv_cmd(
-        yes(arg(p, 0)),
-        low8(arg(p, 1)),
-        low16(arg(p, 2)),
-        low32(arg(p, 3)),
-        low8(arg(p, 4)),
-        low8(arg(p, 5)),
-        low8(arg(p, 6)),
-        low8(arg(p, 7)),
-        low8(arg(p, 8)),
+        yes(p, A0),
+        byte(p, A1),
+        u16_at(p, A2),
+        u32_at(p, A3),
+        byte(p, A4),
+        byte(p, A5),
+        byte(p, A6),
+        byte(p, A7),
+        byte(p, A8),
     );
     framed(&cmd)
 }
 
 fn kind_7(p: &[u8]) -> Answer {
     let cmd = cmd_lora::set_lora_cad_params_cmd(
-        low8(arg(p, 0)),
-        yes(arg(p, 1)),
-        low8(arg(p, 2)),
-        exit_mode(arg(p, 3)),
-        low32(arg(p, 4)),
-        low8(arg(p, 5)),
+        byte(p, A0),
+        yes(p, A1),
+        byte(p, A2),
+        exit_mode(p, A3),
+        u32_at(p, A4),
+        byte(p, A5),
     );
     framed(&cmd)
 }
@@ -124,46 +133,46 @@ fn kind_10() -> Answer {
 }
 
 fn kind_11(p: &[u8]) -> Answer {
-    let cmd = cmd_lora::set_lora_address_cmd(addr_len(arg(p, 0)), low8(arg(p, 1)), arg(p, 2));
+    let cmd = cmd_lora::set_lora_address_cmd(addr_len(p, A0), byte(p, A1), u64_at(p, A2));
     framed(&cmd)
 }
 
 fn kind_12(p: &[u8]) -> Answer {
-    let cmd = cmd_lora::set_lora_syncword_extended_cmd(low8(arg(p, 0)), low8(arg(p, 1)));
+    let cmd = cmd_lora::set_lora_syncword_extended_cmd(byte(p, A0), byte(p, A1));
     framed(&cmd)
 }
 
 fn kind_13(p: &[u8]) -> Answer {
     let cmd = cmd_lora::set_lora_side_det_syncword_extended_cmd(
-        low8(arg(p, 0)),
-        low8(arg(p, 1)),
-        low8(arg(p, 2)),
-        low8(arg(p, 3)),
-        low8(arg(p, 4)),
-        low8(arg(p, 5)),
+        byte(p, A0),
+        byte(p, A1),
+        byte(p, A2),
+        byte(p, A3),
+        byte(p, A4),
+        byte(p, A5),
     );
     framed(&cmd)
 }
 
 fn kind_14(p: &[u8]) -> Answer {
-    let cmd = cmd_lora::set_lora_tx_sync_cmd(timing_sync_mode(arg(p, 0)), low8(arg(p, 1)));
+    let cmd = cmd_lora::set_lora_tx_sync_cmd(timing_sync_mode(p, A0), byte(p, A1));
     framed(&cmd)
 }
 
 fn kind_15(p: &[u8]) -> Answer {
     let cmd = cmd_lora::set_lora_blanking_cmd(
-        low8(arg(p, 0)),
-        low8(arg(p, 1)),
-        low8(arg(p, 2)),
-        yes(arg(p, 3)),
-        low8(arg(p, 4)),
+        byte(p, A0),
+        byte(p, A1),
+        byte(p, A2),
+        yes(p, A3),
+        byte(p, A4),
     );
     framed(&cmd)
 }
 
-// The value of each code; the requests hold no other code, and the last arm takes the first name too.
-pub fn sf(code: u64) -> Sf {
-    match code {
+// The value whose code stands at a place; the requests hold no other code, and the last arm takes the first name too.
+pub fn sf(p: &[u8], at: usize) -> Sf {
+    match byte(p, at) {
         6 => Sf::Sf6,
         7 => Sf::Sf7,
         8 => Sf::Sf8,
@@ -175,8 +184,8 @@ pub fn sf(code: u64) -> Sf {
     }
 }
 
-pub fn lora_bw(code: u64) -> LoraBw {
-    match code {
+pub fn lora_bw(p: &[u8], at: usize) -> LoraBw {
+    match byte(p, at) {
         1 => LoraBw::Bw15,
         2 => LoraBw::Bw31,
         3 => LoraBw::Bw62,
@@ -196,8 +205,8 @@ pub fn lora_bw(code: u64) -> LoraBw {
     }
 }
 
-pub fn lora_cr(code: u64) -> LoraCr {
-    match code {
+pub fn lora_cr(p: &[u8], at: usize) -> LoraCr {
+    match byte(p, at) {
         1 => LoraCr::Cr1Ham45Si,
         2 => LoraCr::Cr2Ham23Si,
         3 => LoraCr::Cr3Ham47Si,
@@ -211,15 +220,15 @@ pub fn lora_cr(code: u64) -> LoraCr {
     }
 }
 
-fn ldro(code: u64) -> Ldro {
-    match code {
+fn ldro(p: &[u8], at: usize) -> Ldro {
+    match byte(p, at) {
         1 => Ldro::On,
         _ => Ldro::Off,
     }
 }
 
-fn lora_filter(code: u64) -> LoraFilter {
-    match code {
+fn lora_filter(p: &[u8], at: usize) -> LoraFilter {
+    match byte(p, at) {
         1 => LoraFilter::Chf,
         2 => LoraFilter::Dcc,
         3 => LoraFilter::DccF,
@@ -227,30 +236,30 @@ fn lora_filter(code: u64) -> LoraFilter {
     }
 }
 
-fn header_type(code: u64) -> HeaderType {
-    match code {
+fn header_type(p: &[u8], at: usize) -> HeaderType {
+    match byte(p, at) {
         1 => HeaderType::Implicit,
         _ => HeaderType::Explicit,
     }
 }
 
-fn timeout_format(code: u64) -> TimeoutFormat {
-    match code {
+fn timeout_format(p: &[u8], at: usize) -> TimeoutFormat {
+    match byte(p, at) {
         1 => TimeoutFormat::Float,
         _ => TimeoutFormat::Integer,
     }
 }
 
-fn exit_mode(code: u64) -> LoraCadExitMode {
-    match code {
+fn exit_mode(p: &[u8], at: usize) -> LoraCadExitMode {
+    match byte(p, at) {
         1 => LoraCadExitMode::CadRx,
         16 => LoraCadExitMode::CadLbt,
         _ => LoraCadExitMode::CadOnly,
     }
 }
 
-fn addr_len(code: u64) -> AddrLen {
-    match code {
+fn addr_len(p: &[u8], at: usize) -> AddrLen {
+    match byte(p, at) {
         1 => AddrLen::Addr1B,
         2 => AddrLen::Addr2B,
         3 => AddrLen::Addr3B,
@@ -263,8 +272,8 @@ fn addr_len(code: u64) -> AddrLen {
     }
 }
 
-fn timing_sync_mode(code: u64) -> TimingSyncMode {
-    match code {
+fn timing_sync_mode(p: &[u8], at: usize) -> TimingSyncMode {
+    match byte(p, at) {
         1 => TimingSyncMode::Initiator,
         2 => TimingSyncMode::Responder,
         _ => TimingSyncMode::Disabled,

@@ -49,16 +49,12 @@ fn answer_to(op: u8, aux: usize, p: &[u8]) -> Answer {
     readers::read_numbers(op, p)
 }
 
-fn small(x: u8) -> usize {
-    x as usize
-}
-
 // The answer for one request.
 fn answer_one(r: &[u8]) -> [u8; 80] {
     if r.len() < REQUEST {
         return [0u8; 80];
     }
-    let a = answer_to(r[0], small(r[1]), &r[4..112]);
+    let a = answer_to(r[0], request::byte(r, 1) as usize, &r[4..112]);
     a.bytes
 }
 

@@ -4,9 +4,8 @@ use crate::lora::lora_bw;
 use crate::lora::lora_cr;
 use crate::lora::sf;
 use crate::request::byte;
-use crate::request::half;
-use crate::request::low8;
-use crate::request::word;
+use crate::request::u16_at;
+use crate::request::u32_at;
 use cmd_common::rsp::CcaResultRead;
 use cmd_common::rsp::CcaResultRsp;
 use cmd_common::rsp::RssiInstRead;
@@ -17,6 +16,8 @@ use cmd_fsk::rsp::FskPacketStatusRead;
 use cmd_fsk::rsp::FskPacketStatusRsp;
 use cmd_fsk::rsp::FskRxStatsRead;
 use cmd_fsk::rsp::FskRxStatsRsp;
+use cmd_lora::LoraBw;
+use cmd_lora::LoraCr;
 use cmd_lora::Ordering;
 use cmd_lora::rsp::LoraPacketStatusRead;
 use cmd_lora::rsp::LoraPacketStatusRsp;
@@ -37,7 +38,7 @@ use status::Status;
 pub fn read_slice(op: u8, s: &[u8], p: &[u8]) -> Answer {
     match op {
         64 => statuses(s, p),
-        65 => interrupts(s, word(p, 64)),
+        65 => interrupts(s, u32_at(p, 64)),
         66 => lora_rx_stats(s),
         67 => lora_packet_status(s),
         68 => fsk_rx_stats(s),
@@ -52,19 +53,15 @@ pub fn read_slice(op: u8, s: &[u8], p: &[u8]) -> Answer {
 // The answer for an operation on numbers; empty for any other.
 pub fn read_numbers(op: u8, p: &[u8]) -> Answer {
     match op {
-        73 => bandwidths(wide(byte(p, 0)), wide(byte(p, 1))),
-        74 => coding_rate(wide(byte(p, 0))),
-        75 => Answer::new().byte(order(sf(wide(byte(p, 0))).cmp(sf(wide(byte(p, 1)))))),
-        76 => text(HalfDbm(half(p, 0)).text()),
+        73 => bandwidths(lora_bw(p, 0), lora_bw(p, 1)),
+        74 => coding_rate(lora_cr(p, 0)),
+        75 => Answer::new().byte(order(sf(p, 0).cmp(sf(p, 1)))),
+        76 => text(HalfDbm(u16_at(p, 0)).text()),
         77 => text(QuarterDb::from_byte(byte(p, 0)).text()),
-        78 => Answer::new().half(counter_difference(half(p, 0), half(p, 2))),
-        79 => Answer::new().half(rx_bw_tenths(byte(p, 0))),
+        78 => Answer::new().put_u16(counter_difference(u16_at(p, 0), u16_at(p, 2))),
+        79 => Answer::new().put_u16(rx_bw_tenths(byte(p, 0))),
         _ => Answer::new(),
     }
-}
-
-fn wide(x: u8) -> u64 {
-    x as u64
 }
 
 fn statuses(s: &[u8], p: &[u8]) -> Answer {
@@ -74,13 +71,11 @@ fn statuses(s: &[u8], p: &[u8]) -> Answer {
 
 fn put_status(a: Answer, s: Status) -> Answer {
     let v = s.0;
-    let high = a.byte((v / 256) as u8)
-        .byte((v % 256) as u8)
-        .byte(low8(s.cmd().code()));
-    let low = high.flag(s.is_ok())
-        .flag(s.irq())
-        .byte(low8(s.reset_src().code()));
-    low.byte(low8(s.chip_mode().code()))
+    let high = a.byte((v / 256) as u8).byte((v % 256) as u8);
+    let state = high.low(s.cmd().code()).flag(s.is_ok()).flag(s.irq());
+    state
+        .low(s.reset_src().code())
+        .low(s.chip_mode().code())
         .byte(checked(s.check()))
 }
 
@@ -101,12 +96,12 @@ fn error(e: Lr2021Error) -> u8 {
 
 fn interrupts(s: &[u8], mask: u32) -> Answer {
     let i = Intr::from_slice(s);
-    let a = put_accessors(Answer::new().word(i.value()), i)
+    let a = accessors(Answer::new().put_u32(i.value()), i)
         .flag(i.none())
         .flag(i.intr_match(mask));
-    a.word(Intr::new(mask).value())
-        .word(Intr::new_txrx().value())
-        .word(Intr::new_ranging().value())
+    a.put_u32(Intr::new(mask).value())
+        .put_u32(Intr::new_txrx().value())
+        .put_u32(Intr::new_ranging().value())
 }
 
 // Eight accessors, the first in bit 0.
@@ -122,22 +117,22 @@ fn put_eight(
     b7: bool,
 ) -> Answer {
     a.byte(
-        bit(b0, 1)
-            | bit(b1, 2)
-            | bit(b2, 4)
-            | bit(b3, 8)
-            | bit(b4, 16)
-            | bit(b5, 32)
-            | bit(b6, 64)
-            | bit(b7, 128),
+        weighed(b0, 1)
+            | weighed(b1, 2)
+            | weighed(b2, 4)
+            | weighed(b3, 8)
+            | weighed(b4, 16)
+            | weighed(b5, 32)
+            | weighed(b6, 64)
+            | weighed(b7, 128),
     )
 }
 
-fn bit(b: bool, weight: u8) -> u8 {
+fn weighed(b: bool, weight: u8) -> u8 {
     if b { weight } else { 0 }
 }
 
-fn put_accessors(a: Answer, i: Intr) -> Answer {
+fn accessors(a: Answer, i: Intr) -> Answer {
     let b = put_eight(
         a,
         i.rx_fifo(),
@@ -185,23 +180,23 @@ fn put_accessors(a: Answer, i: Intr) -> Answer {
 }
 
 fn refused(x: Refusal) -> Answer {
-    Answer::new().byte(low8(x.number() as u64))
+    Answer::new().low(x.number() as u64)
 }
 
 // What a response that was read begins with.
 fn accepted(s: Status) -> Answer {
-    Answer::new().byte(0).half(s.0)
+    Answer::new().byte(0).put_u16(s.0)
 }
 
 fn lora_rx_stats(s: &[u8]) -> Answer {
     let read = LoraRxStatsRsp::from_slice(s);
     match read {
         LoraRxStatsRead::Rsp(r) => accepted(r.status)
-            .half(r.pkt_rx)
-            .half(r.crc_error)
-            .half(r.header_error)
-            .half(r.detection)
-            .half(r.false_sync),
+            .put_u16(r.pkt_rx)
+            .put_u16(r.crc_error)
+            .put_u16(r.header_error)
+            .put_u16(r.detection)
+            .put_u16(r.false_sync),
         LoraRxStatsRead::Refused(x) => refused(x),
     }
 }
@@ -215,14 +210,12 @@ fn lora_packet_status(s: &[u8]) -> Answer {
                 .byte(r.coding_rate)
                 .byte(r.pkt_length)
                 .byte(signed(r.snr_pkt.0));
-            put_level(put_level(a, r.rssi_pkt), r.rssi_signal_pkt).byte(r.detector)
+            a.put_u16(r.rssi_pkt.0)
+                .put_u16(r.rssi_signal_pkt.0)
+                .byte(r.detector)
         }
         LoraPacketStatusRead::Refused(x) => refused(x),
     }
-}
-
-fn put_level(a: Answer, x: HalfDbm) -> Answer {
-    a.half(x.0)
 }
 
 // The byte of a count in two's complement.
@@ -239,11 +232,11 @@ fn fsk_rx_stats(s: &[u8]) -> Answer {
     match read {
         FskRxStatsRead::Rsp(r) => {
             let a = accepted(r.status)
-                .half(r.pkt_rx)
-                .half(r.crc_error)
-                .half(r.len_error)
-                .half(r.pbl_det);
-            a.half(r.sync_ok).half(r.sync_fail).half(r.timeout)
+                .put_u16(r.pkt_rx)
+                .put_u16(r.crc_error)
+                .put_u16(r.len_error)
+                .put_u16(r.pbl_det);
+            a.put_u16(r.sync_ok).put_u16(r.sync_fail).put_u16(r.timeout)
         }
         FskRxStatsRead::Refused(x) => refused(x),
     }
@@ -253,10 +246,10 @@ fn fsk_packet_status(s: &[u8]) -> Answer {
     let read = FskPacketStatusRsp::from_slice(s);
     match read {
         FskPacketStatusRead::Rsp(r) => {
-            let a = put_level(
-                put_level(accepted(r.status).half(r.pkt_len), r.rssi_avg),
-                r.rssi_sync,
-            );
+            let a = accepted(r.status)
+                .put_u16(r.pkt_len)
+                .put_u16(r.rssi_avg.0)
+                .put_u16(r.rssi_sync.0);
             a.flag(r.addr_match_bcast)
                 .flag(r.addr_match_node)
                 .byte(r.lqi)
@@ -268,7 +261,7 @@ fn fsk_packet_status(s: &[u8]) -> Answer {
 fn rssi_inst(s: &[u8]) -> Answer {
     let read = RssiInstRsp::from_slice(s);
     match read {
-        RssiInstRead::Rsp(r) => put_level(accepted(r.status), r.rssi),
+        RssiInstRead::Rsp(r) => accepted(r.status).put_u16(r.rssi.0),
         RssiInstRead::Refused(x) => refused(x),
     }
 }
@@ -276,7 +269,7 @@ fn rssi_inst(s: &[u8]) -> Answer {
 fn timestamp_value(s: &[u8]) -> Answer {
     let read = TimestampValueRsp::from_slice(s);
     match read {
-        TimestampValueRead::Rsp(r) => accepted(r.status).word(r.timestamp),
+        TimestampValueRead::Rsp(r) => accepted(r.status).put_u32(r.timestamp),
         TimestampValueRead::Refused(x) => refused(x),
     }
 }
@@ -284,10 +277,10 @@ fn timestamp_value(s: &[u8]) -> Answer {
 fn cca_result(s: &[u8]) -> Answer {
     let read = CcaResultRsp::from_slice(s);
     match read {
-        CcaResultRead::Rsp(r) => put_level(
-            put_level(put_level(accepted(r.status), r.rssi_min), r.rssi_max),
-            r.rssi_avg,
-        ),
+        CcaResultRead::Rsp(r) => accepted(r.status)
+            .put_u16(r.rssi_min.0)
+            .put_u16(r.rssi_max.0)
+            .put_u16(r.rssi_avg.0),
         CcaResultRead::Refused(x) => refused(x),
     }
 }
@@ -300,27 +293,19 @@ fn order(o: Ordering) -> u8 {
     }
 }
 
-fn bandwidths(x: u64, y: u64) -> Answer {
-    let w = lora_bw(x);
+fn bandwidths(w: LoraBw, other: LoraBw) -> Answer {
     Answer::new()
-        .word(w.to_hz())
+        .put_u32(w.to_hz())
         .flag(w.is_fractional())
-        .byte(order(w.cmp(lora_bw(y))))
+        .byte(order(w.cmp(other)))
 }
 
-fn coding_rate(x: u64) -> Answer {
-    let r = lora_cr(x);
+fn coding_rate(r: LoraCr) -> Answer {
     Answer::new().flag(r.is_li()).byte(r.denominator())
 }
 
 // A text has zeros behind its end, so all eight bytes may go.
 fn text(t: Text) -> Answer {
     let b = t.bytes;
-    let a = Answer::new()
-        .byte(low8(t.len as u64))
-        .byte(b[0])
-        .byte(b[1])
-        .byte(b[2])
-        .byte(b[3]);
-    a.byte(b[4]).byte(b[5]).byte(b[6]).byte(b[7])
+    Answer::new().low(t.len as u64).bytes(&b)
 }
