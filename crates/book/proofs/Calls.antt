@@ -15,14 +15,14 @@ use Rattle.book.specs.declared.Answer.{Answer}
 use Rattle.book.specs.declared.Answer.the-variants.{Done, Refused}
 use Rattle.contents.specs.Frames.{flat, place}
 use Rattle.contents.specs.Contents.{Contents, Layout, header, holds, image, judge, longest, refused, roomOf, start, verdictOf, words}
-use Rattle.contents.proofs.Judged.{Bytes, Reads, judge-image, judge-reads}
+use Rattle.contents.proofs.Judged.{Bytes, Reads, apart, judge-image, judge-reads}
 use Rattle.book.specs.Plain.{Turn, become, clearOn}
 use Rattle.book.specs.Book.{call, made, opened, verdict}
 use Rattle.book.specs.Edits.{setWord}
 
 -- an answer is not both
 pub done-refused : (n : ℕ) (x : Refusal) → Done n ≡ Refused x → ⊥
-done-refused n x q = let y : _≡_ {A = ℕ} 0 1 = cc in omega arith
+done-refused n x q = apart (cc)
 
 pub record Holds (l : Layout) (b : List ℕ) : Type 0 where
   pub frames : List (List ℕ)
@@ -45,7 +45,7 @@ module _ (l : Layout) (b : List ℕ) where
   ready-sound e = go (judge l b) e
     where
       go : (r : Contents) → checked.WellFormed ≡ verdictOf r → Done 0 ≡ verdict r
-      go (refused y) z = let w : _≡_ {A = ℕ} 0 1 = cc in absurd (omega arith)
+      go (refused y) z = absurd (apart (cc))
       go (holds fs) z = refl
 
   pub ready-refused : (x : Refusal) → checked.Refused x ≡ verdictOf (judge l b) → Refused x ≡ verdict (opened l b)
@@ -54,7 +54,7 @@ module _ (l : Layout) (b : List ℕ) where
     where
       go : (r : Contents) → checked.Refused x ≡ verdictOf r → Refused x ≡ verdict r
       go (refused y) z = let w : x ≡ y = cc in ap (λ (y : Refusal). Refused y) w
-      go (holds fs) z = let w : _≡_ {A = ℕ} 0 1 = cc in absurd (omega arith)
+      go (holds fs) z = absurd (apart (cc))
 
 -- what opens reads as those frames
 pub opened-judge : (l : Layout) (b : List ℕ) (fs : List (List ℕ)) → opened l b ≡ holds fs → judge l b ≡ holds fs
@@ -72,7 +72,8 @@ pub record Gives (l : Layout) (s : List ℕ → ℕ → List (List ℕ) → Turn
   pub bytes : y ≡ call l s o b .bytes
 
 -- a call that is refused by the reading leaves the bytes
-pub turned-away : (l : Layout) (s : List ℕ → ℕ → List (List ℕ) → Turn) (o b : List ℕ) (a : Answer) (r : Refusal) → a ≡ verdict (opened l b) → a ≡ Refused r → Gives l s o b a o b
+pub turned-away : (l : Layout) (s : List ℕ → ℕ → List (List ℕ) → Turn) (o b : List ℕ) (a : Answer) (r : Refusal) → a ≡ verdict (opened l b) → a ≡ Refused r
+    → Gives l s o b a o b
 unfolding call
 turned-away l s o b a r e z = go (opened l b) refl
   where
@@ -81,11 +82,17 @@ turned-away l s o b a r e z = go (opened l b) refl
     go (holds fs) w = absurd (done-refused 0 r (sym (e ∙ ap verdict w) ∙ z))
 
 -- a call on a book that reads as frames is the step on them
-pub accept : (l : Layout) (s : List ℕ → ℕ → List (List ℕ) → Turn) (o b : List ℕ) (h : Holds l b) (t : Turn) (y : List ℕ) → s o (roomOf l (length b)) (h .frames) ≡ t → y ≡ image l (length b) (t .frames)
+pub accept : (l : Layout) (s : List ℕ → ℕ → List (List ℕ) → Turn) (o b : List ℕ) (h : Holds l b) (t : Turn) (y : List ℕ)
+    → s o (roomOf l (length b)) (h .frames) ≡ t → y ≡ image l (length b) (t .frames)
     → Gives l s o b (t .answer) (t .output) y
 unfolding call
 accept l s o b h t y e q =
-    record { answer = rw (h .opens) (ap (λ (u : Turn). u .answer) (sym e)); output = rw (h .opens) (ap (λ (u : Turn). u .output) (sym e)); bytes = rw (h .opens) (q ∙ ap (λ (u : Turn). image l (length b) (u .frames)) (sym e)) }
+    record {
+      answer = rw (h .opens) (ap (λ (u : Turn). u .answer) (sym e));
+      output = rw (h .opens) (ap (λ (u : Turn). u .output) (sym e));
+      bytes = rw
+          (h .opens) (q ∙ ap (λ (u : Turn). image l (length b) (u .frames)) (sym e));
+    }
 
 -- ---- the empty book
 
@@ -140,7 +147,8 @@ module _ (l : Layout) (b : List ℕ) where
   unfolding made
   make-long h a = (rw (le-leb _ _ h, lt-leb _ _ a), rw (le-leb _ _ h, lt-leb _ _ a))
 
-  pub make-fits : (x : List ℕ) → start (l .slots) ≤ length b → length b ≤ longest → x ≡ image l (length b) [] → (Done 0 ≡ made l b .answer) × (x ≡ made l b .bytes)
+  pub make-fits : (x : List ℕ) → start (l .slots) ≤ length b → length b ≤ longest → x ≡ image l (length b) []
+      → (Done 0 ≡ made l b .answer) × (x ≡ made l b .bytes)
   unfolding made
   make-fits x h a e = (rw (le-leb _ _ h, le-leb _ _ a), rw (le-leb _ _ h, le-leb _ _ a) e)
 
@@ -151,10 +159,12 @@ pub clear-done : (l : Layout) (b y : List ℕ) → Holds l b → y ≡ image l (
 unfolding clearOn
 clear-done l b y h e = accept l clearOn [] b h (become [] []) y refl e
 
-pub permits : (l : Layout) (s : List ℕ → ℕ → List (List ℕ) → Turn) (o b : List ℕ) (a : Answer) (x y : List ℕ) → Gives l s o b a x y → (a ≡ call l s o b .answer) × (y ≡ call l s o b .bytes)
+pub permits : (l : Layout) (s : List ℕ → ℕ → List (List ℕ) → Turn) (o b : List ℕ) (a : Answer) (x y : List ℕ) → Gives l s o b a x y
+    → (a ≡ call l s o b .answer) × (y ≡ call l s o b .bytes)
 permits l s o b a x y g = (g .answer, g .bytes)
 
-pub tells : (l : Layout) (s : List ℕ → ℕ → List (List ℕ) → Turn) (o b : List ℕ) (a : Answer) (x y : List ℕ) → Gives l s o b a x y → (a ≡ call l s o b .answer) × (x ≡ call l s o b .output)
+pub tells : (l : Layout) (s : List ℕ → ℕ → List (List ℕ) → Turn) (o b : List ℕ) (a : Answer) (x y : List ℕ) → Gives l s o b a x y
+    → (a ≡ call l s o b .answer) × (x ≡ call l s o b .output)
 tells l s o b a x y g = (g .answer, g .output)
 
 pub opened-done : (l : Layout) (b : List ℕ) (n : ℕ) → Done n ≡ verdict (opened l b) → Done 0 ≡ verdict (opened l b)

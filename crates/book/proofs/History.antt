@@ -7,7 +7,6 @@ use Prim.Native.Nat.{ℕ, _-_, _≤_}
 use native.Mathlib.Omega.{arith}
 use borrow.Author.Tests.{le-leb}
 use lib.ListN.{length}
-use Rattle.book.specs.declared.Answer.the-variants.{Done}
 use Rattle.table.specs.Table.{settings}
 use Rattle.contents.specs.Contents.{Layout, holds, image, longest, roomOf, start}
 use Rattle.contents.proofs.Written.{image-judge, image-length}
@@ -21,7 +20,8 @@ use Rattle.book.proofs.Kept.{Kept, empty-kept, turn-kept}
 
 -- Where each call does to a picture of a list what it does to the list, and keeps what a list needs, so does every list of calls.
 module _ {C : Type 0} (on : C → List ℕ → Outcome) (to : C → List (List ℕ) → Turn) (picture : List (List ℕ) → List ℕ) (Fit : List (List ℕ) → Type 0)
-    (agrees : (c : C) (fs : List (List ℕ)) → Fit fs → on c (picture fs) ≡ record { answer = to c fs .answer; output = to c fs .output; bytes = picture (to c fs .frames) })
+    (agrees : (c : C) (fs : List (List ℕ)) → Fit fs → on c (picture fs) ≡ record
+    { answer = to c fs .answer; output = to c fs .output; bytes = picture (to c fs .frames) })
     (keeps : (c : C) (fs : List (List ℕ)) → Fit fs → Fit (to c fs .frames)) where
   pub runs : (cs : List C) (fs : List (List ℕ)) → Fit fs
       → onBytes on cs (picture fs) ≡ record { heard = onList to cs fs .heard; bytes = picture (onList to cs fs .frames) }

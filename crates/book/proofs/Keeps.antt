@@ -2,9 +2,8 @@
 -- Assumes nothing.
 use mathlib.Core.Path.{ap, refl, sym, _∙_, _≡_}
 use mathlib.Core.Bool.{Bool, cond, false, true}
-use mathlib.Core.List.{List, [], _++_, _∷_}
+use mathlib.Core.List.{List, [], _++_}
 use Prim.Native.Nat.{ℕ}
-use native.Mathlib.Omega.{arith}
 use lib.Dec.{leb, ltb}
 use lib.ListN.{drop, length}
 use Rattle.refusal.specs.declared.Refusal.{Refusal}
@@ -46,7 +45,8 @@ refuse-keeps y o fs x q = (refl, refl)
 tell-keeps : (m o : List ℕ) (fs : List (List ℕ)) → Keeps (tell m o fs) o fs
 tell-keeps m o fs = go (leb (length m) (length o))
   where
-    go : (t : Bool) → Keeps (cond {A = Turn} t (record { answer = Done (length m); output = m ++ drop (length m) o; frames = fs }) (refuse OutputShort o fs)) o fs
+    go : (t : Bool) → Keeps (cond {A = Turn} t (record { answer = Done (length m); output = m ++ drop (length m) o; frames = fs }) (refuse OutputShort o fs))
+        o fs
     go true x q = absurd (done-refused (length m) x q)
     go false x q = (refl, refl)
 

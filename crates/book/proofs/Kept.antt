@@ -38,7 +38,8 @@ unfolding held swapIn
 held-swap k f own j [] = refl
 held-swap k f own j (g ∷ fs) = go (held-swap k f own j fs) (eqb (slotOf g) k) refl
   where
-    go : held j (swapIn k f fs) ≡ held j fs → (t : Bool) → eqb (slotOf g) k ≡ t → held j (cond t (f ∷ fs) (g ∷ swapIn k f fs)) ≡ cond (eqb (slotOf g) j) true (held j fs)
+    go : held j (swapIn k f fs) ≡ held j fs → (t : Bool) → eqb (slotOf g) k ≡ t
+        → held j (cond t (f ∷ fs) (g ∷ swapIn k f fs)) ≡ cond (eqb (slotOf g) j) true (held j fs)
     go ih true w = ap (λ (x : ℕ). cond (eqb x j) true (held j fs)) (own ∙ sym (eqb-true _ _ w))
     go ih false w = ap (λ (x : Bool). cond (eqb (slotOf g) j) true x) ih
 
@@ -56,7 +57,8 @@ unfolding held without
 held-without k j [] h = refl
 held-without k j (g ∷ fs) h = go (held-without k j fs) (eqb (slotOf g) k) (eqb (slotOf g) j) refl h
   where
-    go : (held j fs ≡ false → held j (without k fs) ≡ false) → (t x : Bool) → eqb (slotOf g) j ≡ x → cond x true (held j fs) ≡ false → held j (cond t fs (g ∷ without k fs)) ≡ false
+    go : (held j fs ≡ false → held j (without k fs) ≡ false) → (t x : Bool) → eqb (slotOf g) j ≡ x → cond x true (held j fs) ≡ false
+        → held j (cond t fs (g ∷ without k fs)) ≡ false
     go ih t true w q = absurd (false≢true (sym q))
     go ih true false w q = q
     go ih false false w q = rw w (ih q)
@@ -84,7 +86,8 @@ unfolding held
 sound-append f [] a h s = (a, refl, tt)
 sound-append f (g ∷ fs) a h s = go (λ q. sound-append f fs a q (s .2)) (eqb (slotOf g) (slotOf f)) refl h
   where
-    go : (held (slotOf f) fs ≡ false → Sound (fs ++ (f ∷ []))) → (t : Bool) → eqb (slotOf g) (slotOf f) ≡ t → cond t true (held (slotOf f) fs) ≡ false → Sound (g ∷ (fs ++ (f ∷ [])))
+    go : (held (slotOf f) fs ≡ false → Sound (fs ++ (f ∷ []))) → (t : Bool) → eqb (slotOf g) (slotOf f) ≡ t → cond t true (held (slotOf f) fs) ≡ false
+        → Sound (g ∷ (fs ++ (f ∷ [])))
     go ih true w q = absurd (false≢true (sym q))
     go ih false w q = (s .0, held-append f (slotOf g) fs (s .1) (λ e. eqb-false _ _ w (sym e)), ih q)
 
@@ -118,7 +121,8 @@ within-without m k (g ∷ fs) w = go (within-without m k fs (w .1)) (eqb (slotOf
 pub tell-frames : (x o : List ℕ) (fs : List (List ℕ)) → tell x o fs .frames ≡ fs
 tell-frames x o fs = go (leb (length x) (length o))
   where
-    go : (t : Bool) → cond {A = Turn} t (record { answer = Done (length x); output = x ++ drop (length x) o; frames = fs }) (refuse OutputShort o fs) .frames ≡ fs
+    go : (t : Bool) → cond {A = Turn} t (record { answer = Done (length x); output = x ++ drop (length x) o; frames = fs })
+        (refuse OutputShort o fs) .frames ≡ fs
     go true = refl
     go false = refl
 

@@ -51,7 +51,13 @@ module _ (l : Layout) (b : List ℕ) (B : Bytes b) (h : Holds l b) where
 
   -- what is held ends within the frames
   pub held-within : (k at : ℕ) → k < l .slots → at ≡ offsetAt b k → (at ≡ 0 → ⊥) → at + (sizeOf k) ≤ wordAt b 2
-  held-within k at a o n = omega (arith, offsets l b (h .frames) (holds-reads l b h) k a, place-in (start (l .slots)) (h .frames) k (tiling .sound) (is-held k at a o n), tiling .ends)
+  held-within k at a o n = omega (
+    arith,
+    offsets l b (h .frames) (holds-reads l b h) k a,
+    place-in (start (l .slots)) (h .frames) k (tiling .sound)
+        (is-held k at a o n),
+    tiling .ends,
+  )
 
 -- a step that leaves the list leaves the bytes
 pub stay : (l : Layout) (b : List ℕ) (B : Bytes b) (h : Holds l b) (s : List ℕ → ℕ → List (List ℕ) → Turn) (o : List ℕ) (a : Answer) (x : List ℕ)
@@ -66,5 +72,12 @@ low-offsets l b B h = record { low = λ s a. go s a (held s (h .frames)) refl }
     r = holds-reads l b h
 
     go : (s : ℕ) → s < l .slots → (t : Bool) → held s (h .frames) ≡ t → offsetAt b s ≤ longest
-    go s a true w = omega (arith, offsets l b (h .frames) r s a, place-in (start (l .slots)) (h .frames) s (tiling l b B h .sound) w, end-is l b B h, r .high, r .big)
+    go s a true w = omega (
+      arith,
+      offsets l b (h .frames) r s a,
+      place-in (start (l .slots)) (h .frames) s (tiling l b B h .sound) w,
+      end-is l b B h,
+      r .high,
+      r .big,
+    )
     go s a false w = omega (arith, offsets l b (h .frames) r s a, place-none (start (l .slots)) (h .frames) s w)

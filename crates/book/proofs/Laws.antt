@@ -17,7 +17,7 @@
 use mathlib.Core.Path.{ap, ap₂, refl, subst, sym, _∙_, _≡_}
 use mathlib.Core.Bool.{Bool, cond, false, false≢true, true}
 use mathlib.Core.List.{List, [], _++_, _∷_}
-use Prim.Native.Nat.{suc, zero, ℕ, _+_, _<_, _≤_}
+use Prim.Native.Nat.{suc, ℕ, _+_, _<_, _≤_}
 use native.Mathlib.Omega.{arith}
 use borrow.Author.Tests.{eq-eqb, eqb-true, le-leb, leb-false, lt-leb, lt-ltb, ltb-true, ne-eqb}
 use lib.Dec.{eqb, leb, ltb}
@@ -30,7 +30,7 @@ use Rattle.settings.proofs.Settings.{slot-one, slotOf-length}
 use Rattle.contents.specs.Frames.{flat, held}
 use Rattle.contents.specs.Contents.{Layout, holds, image, judge}
 use Rattle.contents.proofs.Shape.{Sound}
-use Rattle.contents.proofs.Judged.{Bytes, judge-image}
+use Rattle.contents.proofs.Judged.{Bytes, apart, judge-image}
 use Rattle.book.specs.Plain.{Turn, askOn, become, frameOf, placed, putOn, refuse, replayOn, seat, swapIn, tell, without}
 use Rattle.book.proofs.Putting.{swap-room}
 use Rattle.refusal.specs.Numbers.{numberOf}
@@ -60,7 +60,8 @@ unfolding held frameOf swapIn
 swap-newest f [] h = absurd (false≢true h)
 swap-newest f (g ∷ fs) h = go (swap-newest f fs) (eqb (slotOf g) (slotOf f)) refl h
   where
-    go : (held (slotOf f) fs ≡ true → frameOf (slotOf f) (swapIn (slotOf f) f fs) ≡ f) → (t : Bool) → eqb (slotOf g) (slotOf f) ≡ t → cond t true (held (slotOf f) fs) ≡ true
+    go : (held (slotOf f) fs ≡ true → frameOf (slotOf f) (swapIn (slotOf f) f fs) ≡ f) → (t : Bool) → eqb (slotOf g) (slotOf f) ≡ t
+        → cond t true (held (slotOf f) fs) ≡ true
         → frameOf (slotOf f) (cond t (f ∷ fs) (g ∷ swapIn (slotOf f) f fs)) ≡ f
     go ih true e q = rw (eq-eqb (slotOf f) (slotOf f) refl)
     go ih false e q = rw e (ih q)
@@ -111,7 +112,8 @@ unfolding swapIn
 swap-order f [] = refl
 swap-order f (g ∷ fs) = go (swap-order f fs) (eqb (slotOf g) (slotOf f)) refl
   where
-    go : slotsIn (swapIn (slotOf f) f fs) ≡ slotsIn fs → (t : Bool) → eqb (slotOf g) (slotOf f) ≡ t → slotsIn (cond t (f ∷ fs) (g ∷ swapIn (slotOf f) f fs)) ≡ slotOf g ∷ slotsIn fs
+    go : slotsIn (swapIn (slotOf f) f fs) ≡ slotsIn fs → (t : Bool) → eqb (slotOf g) (slotOf f) ≡ t
+        → slotsIn (cond t (f ∷ fs) (g ∷ swapIn (slotOf f) f fs)) ≡ slotOf g ∷ slotsIn fs
     go ih true e = ap (λ (n : ℕ). n ∷ slotsIn fs) (sym (eqb-true (slotOf g) (slotOf f) e))
     go ih false e = ap (λ (l : List ℕ). slotOf g ∷ l) ih
 
@@ -139,7 +141,8 @@ unfolding frameOf without
 without-others s j n [] = refl
 without-others s j n (g ∷ fs) = go (without-others s j n fs) (eqb (slotOf g) s) refl
   where
-    go : frameOf j (without s fs) ≡ frameOf j fs → (t : Bool) → eqb (slotOf g) s ≡ t → frameOf j (cond t fs (g ∷ without s fs)) ≡ cond (eqb (slotOf g) j) g (frameOf j fs)
+    go : frameOf j (without s fs) ≡ frameOf j fs → (t : Bool) → eqb (slotOf g) s ≡ t
+        → frameOf j (cond t fs (g ∷ without s fs)) ≡ cond (eqb (slotOf g) j) g (frameOf j fs)
     go ih true e = rw (eqb-true (slotOf g) s e, ne-eqb s j n)
     go ih false e = ap (λ (x : List ℕ). cond (eqb (slotOf g) j) g x) ih
 
@@ -163,7 +166,8 @@ unfolding without gone
 without-order s [] = refl
 without-order s (g ∷ fs) = go (without-order s fs) (eqb (slotOf g) s)
   where
-    go : slotsIn (without s fs) ≡ gone s (slotsIn fs) → (t : Bool) → slotsIn (cond t fs (g ∷ without s fs)) ≡ cond t (slotsIn fs) (slotOf g ∷ gone s (slotsIn fs))
+    go : slotsIn (without s fs) ≡ gone s (slotsIn fs) → (t : Bool)
+        → slotsIn (cond t fs (g ∷ without s fs)) ≡ cond t (slotsIn fs) (slotOf g ∷ gone s (slotsIn fs))
     go ih true = refl
     go ih false = ap (λ (l : List ℕ). slotOf g ∷ l) ih
 
@@ -180,10 +184,16 @@ module _ (f o : List ℕ) (room : ℕ) (fs : List (List ℕ)) (a : slotOf f < se
   setting-put = rw (lt-ltb (slotOf f) settings a)
 
   -- the list with the frame does not fit, and 8 is the answer; or it fits, and the put is done
-  pub setting-full : (room < length (flat (placed f fs)) → putOn f o room fs ≡ refuse NoRoom o fs) × (putOn f o room fs .answer ≡ Refused NoRoom → room < length (flat (placed f fs)))
-  setting-full = ((λ h. setting-put ∙ rw (lt-leb _ _ h)), λ e. go (leb (length (flat (placed f fs))) room) refl (sym (ap (λ (t : Turn). t .answer) setting-put) ∙ e))
+  pub setting-full : (room < length (flat (placed f fs)) → putOn f o room fs ≡ refuse NoRoom o fs) × (putOn f o room fs .answer ≡ Refused NoRoom
+      → room < length (flat (placed f fs)))
+  setting-full = (
+    (λ h. setting-put ∙ rw (lt-leb _ _ h)),
+    λ e. go (leb (length (flat (placed f fs))) room) refl
+        (sym (ap (λ (t : Turn). t .answer) setting-put) ∙ e),
+  )
     where
-      go : (t : Bool) → leb (length (flat (placed f fs))) room ≡ t → cond {A = Turn} t (become o (placed f fs)) (refuse NoRoom o fs) .answer ≡ Refused NoRoom → room < length (flat (placed f fs))
+      go : (t : Bool) → leb (length (flat (placed f fs))) room ≡ t → cond {A = Turn} t (become o (placed f fs)) (refuse NoRoom o fs) .answer ≡ Refused NoRoom
+          → room < length (flat (placed f fs))
       go true p q = absurd (done-refused 0 NoRoom q)
       go false p q = leb-false _ _ p
 
@@ -209,17 +219,19 @@ decode-own f x e = go (ltb (length f) 2) (ltb i kinds) (known rows (opcode f)) (
 
     go : (a b d s t : Bool)
         → cond a (refuses ShortFrame)
-        (cond b (cond s (refuses (StrayBit (strayAt r f))) (cond t (refuses (UnknownCode (lackingAt r f))) (reading (suc i) (argumentsIn r f)))) (cond d (refuses WrongLength) (refuses UnknownOpcode)))
+        (cond b (cond s (refuses (StrayBit (strayAt r f))) (cond t (refuses (UnknownCode (lackingAt r f))) (reading (suc i) (argumentsIn r f))))
+        (cond d (refuses WrongLength) (refuses UnknownOpcode)))
         ≡ refuses x → numberOf x ≤ 5
     go true b d s t q = own ShortFrame (omega arith) q
     go false true d true t q = own (StrayBit (strayAt r f)) (omega arith) q
     go false true d false true q = own (UnknownCode (lackingAt r f)) (omega arith) q
-    go false true d false false q = absurd (let w : _≡_ {A = ℕ} 0 1 = cc in omega arith)
+    go false true d false false q = absurd (apart (cc))
     go false false true s t q = own WrongLength (omega arith) q
     go false false false s t q = own UnknownOpcode (omega arith) q
 
 -- 8 is given to a setting's frame alone
-pub put-eight : (f o : List ℕ) (room : ℕ) (fs : List (List ℕ)) → putOn f o room fs .answer ≡ Refused NoRoom → (slotOf f < settings) × (room < length (flat (placed f fs)))
+pub put-eight : (f o : List ℕ) (room : ℕ) (fs : List (List ℕ)) → putOn f o room fs .answer ≡ Refused NoRoom
+    → (slotOf f < settings) × (room < length (flat (placed f fs)))
 unfolding putOn
 put-eight f o room fs e = go (ltb (slotOf f) settings) refl e
   where
@@ -228,7 +240,8 @@ put-eight f o room fs e = go (ltb (slotOf f) settings) refl e
     never (refuses x) p q = let w : numberOf x ≡ 8 = ap number q in omega (arith, decode-own f x p)
 
     go : (t : Bool) → ltb (slotOf f) settings ≡ t
-        → cond {A = Turn} t (cond (leb (length (flat (placed f fs))) room) (become o (placed f fs)) (refuse NoRoom o fs)) (refuse (lacks (decode f)) o fs) .answer ≡ Refused NoRoom
+        → cond {A = Turn} t (cond (leb (length (flat (placed f fs))) room) (become o (placed f fs)) (refuse NoRoom o fs))
+        (refuse (lacks (decode f)) o fs) .answer ≡ Refused NoRoom
         → (slotOf f < settings) × (room < length (flat (placed f fs)))
     go true p q = let a : slotOf f < settings = ltb-true _ _ p in (a, setting-full f o room fs a .1 e)
     go false p q = absurd (never (decode f) refl q)
@@ -263,7 +276,8 @@ unfolding held frameOf
 frame-slot s [] h = absurd (false≢true h)
 frame-slot s (g ∷ fs) h = go (frame-slot s fs) (eqb (slotOf g) s) refl h
   where
-    go : (held s fs ≡ true → slotOf (frameOf s fs) ≡ s) → (t : Bool) → eqb (slotOf g) s ≡ t → cond t true (held s fs) ≡ true → slotOf (cond t g (frameOf s fs)) ≡ s
+    go : (held s fs ≡ true → slotOf (frameOf s fs) ≡ s) → (t : Bool) → eqb (slotOf g) s ≡ t → cond t true (held s fs) ≡ true
+        → slotOf (cond t g (frameOf s fs)) ≡ s
     go ih true e q = eqb-true (slotOf g) s e
     go ih false e q = ih q
 

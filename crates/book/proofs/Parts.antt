@@ -3,16 +3,16 @@
 -- Assumes nothing.
 use mathlib.Core.Path.{ap, ap₂, refl, subst, sym, _∙_, _≡_}
 use mathlib.Core.Bool.{Bool, cond, false, true}
-use mathlib.Core.List.{List, [], append-assoc, _++_, _∷_}
+use mathlib.Core.List.{List, append-assoc, _++_, _∷_}
 use Prim.Native.Nat.{suc, zero, ℕ, _%_, _*_, _+_, _-_, _/_, _<_, _≤_}
 use native.Mathlib.Omega.{arith}
 use borrow.Author.Tests.{eq-eqb, eqb-false, eqb-true, ne-eqb}
 use lib.Dec.{eqb}
 use lib.ListN.{drop, getD, length, length-set, replicate, set, take}
 use lib.Seq.{drop-append-add, drop-append-le, getD-set-other, paste, set-append-left, take-all, take-append-add, take-append-le}
-use Rattle.contents.specs.Contents.{Layout, offsetAt, start, wordAt, words}
+use Rattle.contents.specs.Contents.{Layout, offsetAt, wordAt, words}
 use Rattle.contents.proofs.Headers.{head, head-get, head-length, words-cong}
-use Rattle.contents.proofs.Steps.{minus-end, minus-step}
+use Rattle.contents.proofs.Loops.{minus-end, minus-step}
 use Rattle.book.specs.Edits.{remap, setWord}
 
 -- ---- two lists
@@ -78,7 +78,8 @@ paste-at A W s i n a e =
     ap (λ (x : ℕ). paste (A ++ W) x s n) (sym a ∙ plus-zero (length A)) ∙ paste-right A W 0 s n ∙ ap (λ (x : List ℕ). A ++ x) (paste-front W s n e)
 
 -- a store of one slot's offset
-pub words-set : (l j : ℕ) (g h : ℕ → ℕ) (k v : ℕ) → k < l → h (j + k) ≡ v → ((x : ℕ) → (j + k ≡ x → ⊥) → g x ≡ h x) → setWord (words l j g) (2 * k) v ≡ words l j h
+pub words-set : (l j : ℕ) (g h : ℕ → ℕ) (k v : ℕ) → k < l → h (j + k) ≡ v → ((x : ℕ) → (j + k ≡ x → ⊥) → g x ≡ h x)
+    → setWord (words l j g) (2 * k) v ≡ words l j h
 unfolding words setWord
 words-set zero j g h k v a e n = absurd (omega arith)
 words-set (suc l) j g h zero v a e n =
@@ -113,14 +114,16 @@ remap-end n φ b k h = ap (λ (m : ℕ). remap φ m b k) (minus-end n k h)
 pub offset-others : (b : List ℕ) (k v s : ℕ) → k < s → offsetAt (setWord b (4 + 2 * k) v) s ≡ offsetAt b s
 unfolding offsetAt wordAt setWord
 offset-others b k v s a =
-    ap₂ (λ (x y : ℕ). x * 256 + y) (one (4 + 2 * s) (λ e. absurd (omega arith)) (λ e. absurd (omega arith))) (one (4 + 2 * s + 1) (λ e. absurd (omega arith)) (λ e. absurd (omega arith)))
+    ap₂ (λ (x y : ℕ). x * 256 + y) (one (4 + 2 * s) (λ e. absurd (omega arith)) (λ e. absurd (omega arith)))
+    (one (4 + 2 * s + 1) (λ e. absurd (omega arith)) (λ e. absurd (omega arith)))
   where
     one : (i : ℕ) → (i ≡ 4 + 2 * k → ⊥) → (i ≡ 4 + 2 * k + 1 → ⊥) → getD (set (set b (4 + 2 * k) (v / 256)) (4 + 2 * k + 1) (v % 256)) i 0 ≡ getD b i 0
     one i x y = getD-set-other (set b (4 + 2 * k) (v / 256)) (4 + 2 * k + 1) i (v % 256) 0 y ∙ getD-set-other b (4 + 2 * k) i (v / 256) 0 x
 
 -- ---- the header
 
-pub head-set : (l : Layout) (c e : ℕ) (g h : ℕ → ℕ) (r : List ℕ) (k v : ℕ) → k < l .slots → h k ≡ v → ((x : ℕ) → (k ≡ x → ⊥) → g x ≡ h x) → setWord (head l c e g ++ r) (4 + 2 * k) v ≡ head l c e h ++ r
+pub head-set : (l : Layout) (c e : ℕ) (g h : ℕ → ℕ) (r : List ℕ) (k v : ℕ) → k < l .slots → h k ≡ v → ((x : ℕ) → (k ≡ x → ⊥) → g x ≡ h x)
+    → setWord (head l c e g ++ r) (4 + 2 * k) v ≡ head l c e h ++ r
 unfolding head
 head-set l c e g h r k v a q n =
     setWord-left (head l c e g) r (4 + 2 * k) v (omega (arith, head-length l c e g))

@@ -2,13 +2,13 @@
 -- Assumes nothing.
 use mathlib.Core.Path.{refl, subst, _≡_}
 use mathlib.Core.Bool.{Bool, cond, false, true}
-use mathlib.Core.List.{List, [], _∷_, _++_}
-use Prim.Native.Nat.{suc, zero, ℕ, _+_, _≤_}
+use mathlib.Core.List.{List, [], _++_}
+use Prim.Native.Nat.{ℕ, _≤_}
 use native.Mathlib.Omega.{arith}
-use lib.Dec.{eqb, leb, ltb}
-use lib.ListN.{drop, getD, length, take}
+use lib.Dec.{leb, ltb}
+use lib.ListN.{drop, length}
 use Rattle.refusal.specs.declared.Refusal.{Refusal}
-use Rattle.refusal.specs.declared.Refusal.the-variants.{BufferSize, NoRoom, NotAKind, NotHeld, NotWellFormed, OutputShort}
+use Rattle.refusal.specs.declared.Refusal.the-variants.{BufferSize, NoRoom, NotAKind, NotHeld, OutputShort}
 use Rattle.refusal.specs.Numbers.{placeOf}
 use Rattle.contents.proofs.Places.{judge-place}
 use Rattle.decoder.specs.Decoding.{Reading, decode, reading, refuses}
@@ -19,7 +19,8 @@ use Rattle.book.specs.declared.Answer.the-variants.{Done, Refused}
 use Rattle.table.specs.Table.{settings}
 use Rattle.settings.specs.Settings.{lacks, slotFor, slotOf}
 use Rattle.contents.specs.Frames.{flat, held}
-use Rattle.contents.specs.Contents.{Contents, Layout, allZero, before, framesFrom, given, holds, image, judge, lengthAt, longest, presentFrom, refused, roomOf, start, wordAt}
+use Rattle.contents.specs.Contents.{Contents, Layout, holds, image, judge, longest, refused}
+use Rattle.contents.specs.Contents.{roomOf, start}
 use Rattle.book.specs.Plain.{Turn, askOn, become, clearOn, frameOf, placed, putOn, refuse, removeOn, replayOn, tell, without}
 use Rattle.book.specs.Book.{Outcome, call, made, onContents, opened}
 use Rattle.book.specs.History.{Ask, Call, Clear, Make, Put, Remove, Replay, after}
@@ -48,7 +49,8 @@ opened-near l b = by (judge l b) refl
 tell-near : (x o : List ℕ) (fs : List (List ℕ)) → spot (tell x o fs .answer) ≤ 12
 tell-near x o fs = by (leb (length x) (length o))
   where
-    by : (t : Bool) → spot (cond {A = Turn} t (record { answer = Done (length x); output = x ++ drop (length x) o; frames = fs }) (refuse OutputShort o fs) .answer) ≤ 12
+    by : (t : Bool) → spot (cond {A = Turn} t (record { answer = Done (length x); output = x ++ drop (length x) o; frames = fs })
+        (refuse OutputShort o fs) .answer) ≤ 12
     by true = omega arith
     by false = omega arith
 

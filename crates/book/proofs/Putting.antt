@@ -2,31 +2,30 @@
 -- after the put; and what `put` returns (`put-..`).
 -- Assumes nothing.
 use mathlib.Core.Path.{ap, ap₂, refl, subst, sym, _∙_, _≡_}
-use mathlib.Core.Bool.{Bool, cond, false, false≢true, not, true}
+use mathlib.Core.Bool.{Bool, cond, false, false≢true, true}
 use mathlib.Core.List.{List, [], append-assoc, append-nil, _++_, _∷_}
-use Prim.Native.Nat.{suc, zero, ℕ, _%_, _*_, _+_, _-_, _/_, _<_, _≤_}
+use Prim.Native.Nat.{suc, ℕ, _%_, _*_, _+_, _-_, _/_, _<_, _≤_}
 use native.Mathlib.Nat.{le-refl}
 use native.Mathlib.Omega.{arith}
 use borrow.Author.Tests.{eq-eqb, eqb-true, le-leb, le-ltb, lt-leb, lt-ltb, ne-eqb}
 use lib.Dec.{eqb}
-use lib.ListN.{drop, getD, length, length-append, length-set, replicate, set, take}
-use lib.Seq.{drop-append-add, drop-append-le, drop-append-seam, length-paste, paste, set-append-left, take-append-add, take-append-le, take-length}
+use lib.ListN.{drop, length, length-append, length-set, replicate, set}
+use lib.Seq.{drop-append-seam, length-paste, paste, set-append-left, take-length}
 use Rattle.refusal.specs.declared.Refusal.{Refusal}
 use Rattle.spans.specs.Spans.{written}
 use Rattle.spans.proofs.Spans.{written-fits}
 use Rattle.refusal.specs.declared.Refusal.the-variants.{NoRoom}
 use Rattle.decoder.specs.Decoding.{decode}
-use Rattle.book.specs.declared.Answer.{Answer}
 use Rattle.book.specs.declared.Answer.the-variants.{Done, Refused}
 use Rattle.table.specs.Table.{settings}
 use Rattle.settings.specs.Settings.{lacks, sizeOf, slotOf}
 use Rattle.settings.proofs.Settings.{slotOf-length}
 use Rattle.contents.specs.Frames.{flat, held, place}
 use Rattle.contents.specs.Contents.{Layout, header, image, offsetAt, roomOf, start, wordAt, words}
-use Rattle.contents.proofs.Shape.{Sound, count-most, place-from, place-ge, place-in, place-none, place-shift, present-count}
-use Rattle.contents.proofs.Judged.{Bytes, Tiled, framesFrom-tiled, judge-image, offsets}
+use Rattle.contents.proofs.Shape.{Sound, place-from, place-in, place-shift}
+use Rattle.contents.proofs.Judged.{Bytes, offsets}
 use Rattle.contents.proofs.Headers.{header-length, words-cong}
-use Rattle.book.specs.Plain.{Turn, become, placed, putOn, refuse, seat, swapIn}
+use Rattle.book.specs.Plain.{become, placed, putOn, refuse, seat, swapIn}
 use Rattle.book.specs.Edits.{appended, setWord}
 use Rattle.book.proofs.Known.{count-is, end-is, held-within, is-held, is-image, not-held, stay, tiling}
 use Rattle.book.proofs.Parts.{drop-replicate, length-setWord, paste-left, paste-right, setWord-left, setWord-skip, words-set}
@@ -61,7 +60,8 @@ module _ (k : ℕ) (f : List ℕ) (own : slotOf f ≡ k) (len : length f ≡ siz
   swap-flat [] s h = absurd (false≢true h)
   swap-flat (g ∷ fs) s h = go (swap-flat fs (s .2)) (eqb (slotOf g) k) refl h
     where
-      go : (held k fs ≡ true → flat (swapIn k f fs) ≡ paste (flat fs) (place 0 fs k) f (length f)) → (t : Bool) → eqb (slotOf g) k ≡ t → cond t true (held k fs) ≡ true
+      go : (held k fs ≡ true → flat (swapIn k f fs) ≡ paste (flat fs) (place 0 fs k) f (length f)) → (t : Bool) → eqb (slotOf g) k ≡ t
+          → cond t true (held k fs) ≡ true
           → flat (cond t (f ∷ fs) (g ∷ swapIn k f fs)) ≡ paste (g ++ flat fs) (cond t 0 (place (0 + length g) fs k)) f (length f)
       go ih true e q =
           ap₂ (λ (x y : List ℕ). x ++ y) (sym (take-length f)) (sym (drop-append-seam g (flat fs)) ∙ ap (λ (n : ℕ). drop n (g ++ flat fs)) same)
@@ -76,16 +76,19 @@ module _ (k : ℕ) (f : List ℕ) (own : slotOf f ≡ k) (len : length f ≡ siz
           c : length g + place 0 fs k ≡ place 0 fs k + length g
           c = omega arith
 
-pub swap-room : (k : ℕ) (f : List ℕ) (fs : List (List ℕ)) → slotOf f ≡ k → length f ≡ sizeOf k → Sound fs → held k fs ≡ true → length (flat (swapIn k f fs)) ≡ length (flat fs)
+pub swap-room : (k : ℕ) (f : List ℕ) (fs : List (List ℕ)) → slotOf f ≡ k → length f ≡ sizeOf k → Sound fs → held k fs ≡ true
+    → length (flat (swapIn k f fs)) ≡ length (flat fs)
 swap-room k f fs own len s h =
     ap length (swap-flat k f own len fs s h) ∙ length-paste (flat fs) (place 0 fs k) f (length f) (omega (arith, place-in 0 fs k s h)) (le-refl (length f))
 
-header-swap : (l : Layout) (k : ℕ) (f : List ℕ) → slotOf f ≡ k → length f ≡ sizeOf k → (fs : List (List ℕ)) → Sound fs → length (flat (swapIn k f fs)) ≡ length (flat fs) → header l (swapIn k f fs) ≡ header l fs
+header-swap : (l : Layout) (k : ℕ) (f : List ℕ) → slotOf f ≡ k → length f ≡ sizeOf k → (fs : List (List ℕ)) → Sound fs
+    → length (flat (swapIn k f fs)) ≡ length (flat fs) → header l (swapIn k f fs) ≡ header l fs
 unfolding header
 header-swap l k f own len fs s e =
     ap₂ (λ (c : ℕ) (r : List ℕ). l .version ∷ c ∷ r) (swap-length k f own len fs)
     (ap₂ (λ (x : ℕ) (r : List ℕ). (start (l .slots) + x) / 256 ∷ (start (l .slots) + x) % 256 ∷ r) e
-    (words-cong (l .slots) 0 (place (start (l .slots)) (swapIn k f fs)) (place (start (l .slots)) fs) (λ j a b. swap-place k f own len (start (l .slots)) fs s j)))
+    (words-cong (l .slots) 0 (place (start (l .slots)) (swapIn k f fs)) (place (start (l .slots)) fs)
+    (λ j a b. swap-place k f own len (start (l .slots)) fs s j)))
 
 pub over-image : (l : Layout) (n k : ℕ) (f : List ℕ) (fs : List (List ℕ)) → slotOf f ≡ k → length f ≡ sizeOf k → Sound fs → held k fs ≡ true
     → paste (image l n fs) (place (start (l .slots)) fs k) f (length f) ≡ image l n (swapIn k f fs)
@@ -127,7 +130,8 @@ place-append p [] f h = ap (λ (t : Bool). cond t p 0) (eq-eqb (slotOf f) (slotO
     e p = omega arith
 place-append p (g ∷ fs) f h = go (place-append (p + length g) fs f) (eqb (slotOf g) (slotOf f)) h
   where
-    go : (held (slotOf f) fs ≡ false → place (p + length g) (fs ++ (f ∷ [])) (slotOf f) ≡ p + length g + length (flat fs)) → (t : Bool) → cond t true (held (slotOf f) fs) ≡ false
+    go : (held (slotOf f) fs ≡ false → place (p + length g) (fs ++ (f ∷ [])) (slotOf f) ≡ p + length g + length (flat fs)) → (t : Bool)
+        → cond t true (held (slotOf f) fs) ≡ false
         → cond t p (place (p + length g) (fs ++ (f ∷ [])) (slotOf f)) ≡ p + length (g ++ flat fs)
     go ih true q = absurd (false≢true (sym q))
     go ih false q = omega (arith, ih q, length-append g (flat fs))
@@ -142,15 +146,18 @@ length-one fs f = length-append fs (f ∷ [])
 
 -- the header, with one more frame
 header-append : (l : Layout) (fs : List (List ℕ)) (f : List ℕ) → held (slotOf f) fs ≡ false → slotOf f < l .slots
-    → setWord (setWord (set (header l fs) 1 (length fs + 1)) 2 (start (l .slots) + length (flat fs) + length f)) (4 + 2 * slotOf f) (start (l .slots) + length (flat fs)) ≡ header l (fs ++ (f ∷ []))
+    → setWord (setWord (set (header l fs) 1 (length fs + 1)) 2 (start (l .slots) + length (flat fs) + length f)) (4 + 2 * slotOf f)
+    (start (l .slots) + length (flat fs)) ≡ header l (fs ++ (f ∷ []))
 unfolding header setWord
 header-append l fs f fresh a =
     let c : ℕ = length fs + 1 in
     let h : ℕ = (start (l .slots) + length (flat fs) + length f) / 256 in
     let w : ℕ = (start (l .slots) + length (flat fs) + length f) % 256 in
-    ap (λ (i : ℕ). setWord (l .version ∷ c ∷ h ∷ w ∷ words (l .slots) 0 (place (start (l .slots)) fs)) i (start (l .slots) + length (flat fs))) (four (2 * slotOf f))
+    ap (λ (i : ℕ). setWord (l .version ∷ c ∷ h ∷ w ∷ words (l .slots) 0 (place (start (l .slots)) fs)) i (start (l .slots) + length (flat fs)))
+    (four (2 * slotOf f))
     ∙ setWord-skip (l .version) c (h ∷ w ∷ words (l .slots) 0 (place (start (l .slots)) fs)) (suc (suc (2 * slotOf f))) (start (l .slots) + length (flat fs))
-    ∙ ap (λ (r : List ℕ). l .version ∷ c ∷ r) (setWord-skip h w (words (l .slots) 0 (place (start (l .slots)) fs)) (2 * slotOf f) (start (l .slots) + length (flat fs)))
+    ∙ ap (λ (r : List ℕ). l .version ∷ c ∷ r) (setWord-skip h w (words (l .slots) 0 (place (start (l .slots)) fs)) (2 * slotOf f)
+    (start (l .slots) + length (flat fs)))
     ∙ ap₂ (λ (c : ℕ) (r : List ℕ). l .version ∷ c ∷ r) (sym (length-one fs f))
     (ap₂ (λ (x : ℕ) (r : List ℕ). x / 256 ∷ x % 256 ∷ r) total
     (words-set (l .slots) 0 (place (start (l .slots)) fs) (place (start (l .slots)) (fs ++ (f ∷ []))) (slotOf f) (start (l .slots) + length (flat fs)) a
@@ -166,13 +173,17 @@ header-append l fs f fresh a =
     total : start (l .slots) + length (flat fs) + length f ≡ start (l .slots) + length (flat (fs ++ (f ∷ [])))
     total = omega (arith, ap length (flat-append fs f), length-append (flat fs) f)
 
-pub app-image : (l : Layout) (n : ℕ) (f : List ℕ) (fs : List (List ℕ)) → held (slotOf f) fs ≡ false → slotOf f < l .slots → start (l .slots) + length (flat fs) + length f ≤ n
-    → setWord (setWord (set (paste (image l n fs) (start (l .slots) + length (flat fs)) f (length f)) 1 (length fs + 1)) 2 (start (l .slots) + length (flat fs) + length f)) (4 + 2 * slotOf f) (start (l .slots) + length (flat fs)) ≡ image l n (fs ++ (f ∷ []))
+pub app-image : (l : Layout) (n : ℕ) (f : List ℕ) (fs : List (List ℕ)) → held (slotOf f) fs ≡ false → slotOf f < l .slots
+    → start (l .slots) + length (flat fs) + length f ≤ n
+    → setWord (setWord (set (paste (image l n fs) (start (l .slots) + length (flat fs)) f (length f)) 1 (length fs + 1)) 2
+    (start (l .slots) + length (flat fs) + length f)) (4 + 2 * slotOf f) (start (l .slots) + length (flat fs)) ≡ image l n (fs ++ (f ∷ []))
 unfolding image
 app-image l n f fs h a room =
     ap (λ (x : List ℕ). setWord (setWord (set x 1 (length fs + 1)) 2 e') (4 + 2 * slotOf f) e) pasted
-    ∙ ap (λ (x : List ℕ). setWord (setWord x 2 e') (4 + 2 * slotOf f) e) (set-append-left (header l fs) rest 1 (length fs + 1) (omega (arith, header-length l fs)))
-    ∙ ap (λ (x : List ℕ). setWord x (4 + 2 * slotOf f) e) (setWord-left (set (header l fs) 1 (length fs + 1)) rest 2 e' (simp length-set (omega (arith, header-length l fs))))
+    ∙ ap (λ (x : List ℕ). setWord (setWord x 2 e') (4 + 2 * slotOf f) e)
+    (set-append-left (header l fs) rest 1 (length fs + 1) (omega (arith, header-length l fs)))
+    ∙ ap (λ (x : List ℕ). setWord x (4 + 2 * slotOf f) e) (setWord-left (set (header l fs) 1 (length fs + 1)) rest 2 e'
+    (simp length-set (omega (arith, header-length l fs))))
     ∙ setWord-left (setWord (set (header l fs) 1 (length fs + 1)) 2 e') rest (4 + 2 * slotOf f) e (omega (arith, len))
     ∙ ap₂ (λ (u v : List ℕ). u ++ v) (header-append l fs f h a) tail
   where
@@ -250,7 +261,14 @@ module _ (l : Layout) (b : List ℕ) (B : Bytes b) (h : Holds l b) (f : List ℕ
     pub put-over : (y : List ℕ) → (at ≡ 0 → ⊥) → y ≡ written b at f → Gives l (putOn f) [] b (Done 0) [] y
     put-over y n e =
         accept l (putOn f) [] b h (become [] (swapIn (slotOf f) f (h .frames))) y
-        (putOn-over f [] (roomOf l (length b)) (h .frames) (omega arith) hf (omega (arith, swap-room (slotOf f) f (h .frames) refl (slotOf-length f (omega arith)) (tiling l b B h .sound) hf, end-is l b B h, holds-reads l b h .high)))
+        (putOn-over f [] (roomOf l (length b)) (h .frames) (omega arith) hf
+        (omega (
+          arith,
+          swap-room (slotOf f) f (h .frames) refl (slotOf-length f (omega arith)) (tiling l b B h .sound) hf,
+          end-is l b B h,
+          holds-reads l b
+              h .high,
+        )))
         (e
         ∙ written-fits b at f (put-room n)
         ∙ ap₂ (λ (x : List ℕ) (i : ℕ). paste x i f (length f)) (is-image l b B h) (o ∙ offsets l b (h .frames) (holds-reads l b h) k am)
@@ -271,7 +289,8 @@ module _ (l : Layout) (b : List ℕ) (B : Bytes b) (h : Holds l b) (f : List ℕ
       more = ap length (flat-append (h .frames) f) ∙ length-append (flat (h .frames)) f
 
       pub put-full : length b - e < length f → Gives l (putOn f) [] b (Refused NoRoom) [] b
-      put-full r = stay l b B h (putOn f) [] (Refused NoRoom) [] (putOn-full f [] (roomOf l (length b)) (h .frames) (omega arith) fresh (omega (arith, more, end-is l b B h, holds-reads l b h .high)))
+      put-full r = stay l b B h (putOn f) [] (Refused NoRoom) [] (putOn-full f [] (roomOf l (length b)) (h .frames) (omega arith) fresh
+          (omega (arith, more, end-is l b B h, holds-reads l b h .high)))
 
       pub put-app : (y : List ℕ) → length f ≤ length b - e
           → y ≡ appended b f k e
@@ -281,7 +300,9 @@ module _ (l : Layout) (b : List ℕ) (B : Bytes b) (h : Holds l b) (f : List ℕ
           accept l (putOn f) [] b h (become [] (h .frames ++ (f ∷ []))) y
           (putOn-app f [] (roomOf l (length b)) (h .frames) (omega arith) fresh (omega (arith, more, room)))
           (p
-          ∙ rw (ee, count-is l b B h, own) (ap (λ (x : List ℕ). setWord (setWord (set (paste x (start (l .slots) + length (flat (h .frames))) f (length f)) 1 (length (h .frames) + 1)) 2 (start (l .slots) + length (flat (h .frames)) + length f)) (4 + 2 * slotOf f) (start (l .slots) + length (flat (h .frames)))) (is-image l b B h))
+          ∙ rw (ee, count-is l b B h, own) (ap (λ (x : List ℕ). setWord
+          (setWord (set (paste x (start (l .slots) + length (flat (h .frames))) f (length f)) 1 (length (h .frames) + 1)) 2
+          (start (l .slots) + length (flat (h .frames)) + length f)) (4 + 2 * slotOf f) (start (l .slots) + length (flat (h .frames)))) (is-image l b B h))
           ∙ app-image l (length b) f (h .frames) fresh (omega arith) room)
         where
           ee : e ≡ start (l .slots) + length (flat (h .frames))

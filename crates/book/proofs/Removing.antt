@@ -5,7 +5,7 @@
 use mathlib.Core.Path.{ap, ap₂, refl, subst, sym, _∙_, _≡_}
 use mathlib.Core.Bool.{Bool, cond, false, false≢true, true}
 use mathlib.Core.List.{List, [], append-assoc, _++_, _∷_}
-use Prim.Native.Nat.{suc, zero, ℕ, _+_, _-_, _<_, _≤_}
+use Prim.Native.Nat.{suc, ℕ, _+_, _-_, _<_, _≤_}
 use native.Mathlib.Nat.{le-refl}
 use native.Mathlib.Omega.{arith}
 use borrow.Author.Tests.{eq-eqb, eqb-true, le-ltb, lt-ltb, ne-eqb}
@@ -68,13 +68,16 @@ module _ (at old new o : ℕ) where
 
 -- ---- the list, with a slot out
 
-pub flat-without : (k : ℕ) (fs : List (List ℕ)) → Sound fs → held k fs ≡ true → flat (without k fs) ≡ take (place 0 fs k) (flat fs) ++ drop (place 0 fs k + (sizeOf k)) (flat fs)
+pub flat-without : (k : ℕ) (fs : List (List ℕ)) → Sound fs → held k fs ≡ true
+    → flat (without k fs) ≡ take (place 0 fs k) (flat fs) ++ drop (place 0 fs k + (sizeOf k)) (flat fs)
 unfolding flat without place held
 flat-without k [] s h = absurd (false≢true h)
 flat-without k (g ∷ fs) s h = go (flat-without k fs (s .2)) (eqb (slotOf g) k) refl h
   where
-    go : (held k fs ≡ true → flat (without k fs) ≡ take (place 0 fs k) (flat fs) ++ drop (place 0 fs k + (sizeOf k)) (flat fs)) → (t : Bool) → eqb (slotOf g) k ≡ t → cond t true (held k fs) ≡ true
-        → flat (cond t fs (g ∷ without k fs)) ≡ take (cond t 0 (place (0 + length g) fs k)) (g ++ flat fs) ++ drop (cond t 0 (place (0 + length g) fs k) + (sizeOf k)) (g ++ flat fs)
+    go : (held k fs ≡ true → flat (without k fs) ≡ take (place 0 fs k) (flat fs) ++ drop (place 0 fs k + (sizeOf k)) (flat fs)) → (t : Bool)
+        → eqb (slotOf g) k ≡ t → cond t true (held k fs) ≡ true
+        → flat (cond t fs (g ∷ without k fs)) ≡ take (cond t 0 (place (0 + length g) fs k)) (g ++ flat fs) ++ drop
+        (cond t 0 (place (0 + length g) fs k) + (sizeOf k)) (g ++ flat fs)
     go ih true e q = sym (drop-append-seam g (flat fs)) ∙ ap (λ (n : ℕ). drop n (g ++ flat fs)) same
       where
         same : length g ≡ 0 + (sizeOf k)
@@ -97,7 +100,8 @@ unfolding without held
 length-without k [] h = absurd (false≢true h)
 length-without k (g ∷ fs) h = go (length-without k fs) (eqb (slotOf g) k) h
   where
-    go : (held k fs ≡ true → length fs ≡ suc (length (without k fs))) → (t : Bool) → cond t true (held k fs) ≡ true → suc (length fs) ≡ suc (length (cond t fs (g ∷ without k fs)))
+    go : (held k fs ≡ true → length fs ≡ suc (length (without k fs))) → (t : Bool) → cond t true (held k fs) ≡ true
+        → suc (length fs) ≡ suc (length (cond t fs (g ∷ without k fs)))
     go ih true q = refl
     go ih false q = ap suc (ih q)
 
@@ -115,9 +119,11 @@ place-first p k g fs pos small len own fresh j = go (eqb (slotOf g) j) refl (hel
         let m : place p fs j ≡ v - (sizeOf k) + 0 = omega arith in
         m ∙ shifted-after p (sizeOf k) 0 v (omega (arith, size-low k small, place-ge p fs j w))
     go false e false w =
-        place-none p fs j w ∙ shifted-kept p (sizeOf k) 0 0 (omega arith) (λ z. absurd (omega arith)) ∙ ap (shiftedAt p (sizeOf k) 0) (sym (place-none (p + length g) fs j w))
+        place-none p fs j w ∙ shifted-kept p (sizeOf k) 0 0 (omega arith) (λ z. absurd (omega arith))
+        ∙ ap (shiftedAt p (sizeOf k) 0) (sym (place-none (p + length g) fs j w))
 
-pub place-without : (p k : ℕ) (fs : List (List ℕ)) → 0 < p → Sound fs → held k fs ≡ true → (j : ℕ) → place p (without k fs) j ≡ shiftedAt (place p fs k) (sizeOf k) 0 (place p fs j)
+pub place-without : (p k : ℕ) (fs : List (List ℕ)) → 0 < p → Sound fs → held k fs ≡ true → (j : ℕ)
+    → place p (without k fs) j ≡ shiftedAt (place p fs k) (sizeOf k) 0 (place p fs j)
 unfolding place without held
 place-without p k [] pos s h j = absurd (false≢true h)
 place-without p k (g ∷ fs) pos s h j = go (λ q. place-without (p + length g) k fs (omega arith) (s .2) q j) (eqb (slotOf g) k) refl h (eqb (slotOf g) j) refl
@@ -125,14 +131,17 @@ place-without p k (g ∷ fs) pos s h j = go (λ q. place-without (p + length g) 
     len : length g ≡ sizeOf (slotOf g)
     len = slotOf-length g (s .0)
 
-    go : (held k fs ≡ true → place (p + length g) (without k fs) j ≡ shiftedAt (place (p + length g) fs k) (sizeOf k) 0 (place (p + length g) fs j)) → (t : Bool) → eqb (slotOf g) k ≡ t → cond t true (held k fs) ≡ true
+    go : (held k fs ≡ true → place (p + length g) (without k fs) j ≡ shiftedAt (place (p + length g) fs k) (sizeOf k) 0 (place (p + length g) fs j))
+        → (t : Bool) → eqb (slotOf g) k ≡ t → cond t true (held k fs) ≡ true
         → (u : Bool) → eqb (slotOf g) j ≡ u
-        → place p (cond t fs (g ∷ without k fs)) j ≡ shiftedAt (cond t p (place (p + length g) fs k)) (sizeOf k) 0 (cond (eqb (slotOf g) j) p (place (p + length g) fs j))
+        → place p (cond t fs (g ∷ without k fs)) j ≡ shiftedAt (cond t p (place (p + length g) fs k)) (sizeOf k) 0
+        (cond (eqb (slotOf g) j) p (place (p + length g) fs j))
     go ih true e q u w =
         let own : slotOf g ≡ k = eqb-true _ _ e in
         place-first p k g fs pos (omega (arith, s .0)) (len ∙ ap (λ (x : ℕ). sizeOf x) own) own (ap (λ (i : ℕ). held i fs) (sym own) ∙ s .1) j
     go ih false e q true w =
-        rw w (shifted-kept (place (p + length g) fs k) (sizeOf k) 0 p (omega (arith, place-ge (p + length g) fs k q)) (λ z. absurd (omega (arith, len, size-low (slotOf g) (s .0), place-ge (p + length g) fs k q))))
+        rw w (shifted-kept (place (p + length g) fs k) (sizeOf k) 0 p (omega (arith, place-ge (p + length g) fs k q))
+        (λ z. absurd (omega (arith, len, size-low (slotOf g) (s .0), place-ge (p + length g) fs k q))))
     go ih false e q false w = rw w (ih q)
 
 -- ---- the bytes, with a slot out
@@ -165,20 +174,24 @@ module _ (H D T : List ℕ) (new z : ℕ) (fits : new ≤ length D + z) where
       i : new + length T + (length D - new) ≡ length D + (length T + (new - length D))
       i = omega arith
 
-  body-zeroed : paste ((take new (D ++ (T ++ replicate z 0)) ++ T) ++ drop (new + length T) (D ++ (T ++ replicate z 0))) (new + length T) (replicate (length D - new) 0) (length D - new)
+  body-zeroed : paste ((take new (D ++ (T ++ replicate z 0)) ++ T) ++ drop (new + length T) (D ++ (T ++ replicate z 0))) (new + length T)
+      (replicate (length D - new) 0) (length D - new)
       ≡ take new Y ++ (T ++ replicate (z + length D - new) 0)
   body-zeroed =
       paste-at (take new Y ++ T) (drop (new + length T) Y) (replicate d 0) (new + length T) d front (length-replicate {A = ℕ} d 0)
       ∙ append-assoc (take new Y) T (replicate d 0 ++ drop d (drop (new + length T) Y))
-      ∙ ap (λ (x : List ℕ). take new Y ++ (T ++ x)) (ap (λ (x : List ℕ). replicate d 0 ++ x) left ∙ replicate-append-replicate d (z - (new - length D)) 0 ∙ ap (λ (n : ℕ). replicate n 0) n)
+      ∙ ap (λ (x : List ℕ). take new Y ++ (T ++ x)) (ap (λ (x : List ℕ). replicate d 0 ++ x) left ∙ replicate-append-replicate d (z - (new - length D)) 0
+      ∙ ap (λ (n : ℕ). replicate n 0) n)
     where
       n : length D - new + (z - (new - length D)) ≡ z + length D - new
       n = omega arith
 
-  body-moved : paste (paste (H ++ (D ++ (T ++ replicate z 0))) (length H + new) (T ++ replicate z 0) (length T)) (length H + (new + length T)) (replicate (length D - new) 0) (length D - new)
+  body-moved : paste (paste (H ++ (D ++ (T ++ replicate z 0))) (length H + new) (T ++ replicate z 0) (length T)) (length H + (new + length T))
+      (replicate (length D - new) 0) (length D - new)
       ≡ H ++ (take new (D ++ (T ++ replicate z 0)) ++ (T ++ replicate (z + length D - new) 0))
   body-moved =
-      ap (λ (x : List ℕ). paste x (length H + (new + length T)) (replicate d 0) d) (paste-right H Y new (T ++ replicate z 0) (length T) ∙ ap (λ (x : List ℕ). H ++ x) body-slid)
+      ap (λ (x : List ℕ). paste x (length H + (new + length T)) (replicate d 0) d)
+      (paste-right H Y new (T ++ replicate z 0) (length T) ∙ ap (λ (x : List ℕ). H ++ x) body-slid)
       ∙ paste-right H ((take new Y ++ T) ++ drop (new + length T) Y) (new + length T) (replicate d 0) d
       ∙ ap (λ (x : List ℕ). H ++ x) body-zeroed
 
@@ -186,13 +199,17 @@ module _ (H D T : List ℕ) (new z : ℕ) (fits : new ≤ length D + z) where
 module _ (l : Layout) (n k new : ℕ) (fs : List (List ℕ)) (s : Sound fs) (h : held k fs ≡ true) (had : start (l .slots) + length (flat fs) ≤ n)
     (fit : start (l .slots) + length (flat fs) - sizeOf k + new ≤ n) where
   abbrev refitBody : List ℕ
-  refitBody = take (place 0 fs k) (flat fs) ++ (take new (take (sizeOf k) (drop (place 0 fs k) (flat fs)) ++ (drop (place 0 fs k + sizeOf k) (flat fs) ++ replicate (n - (start (l .slots) + length (flat fs))) 0)) ++ (drop (place 0 fs k + sizeOf k) (flat fs) ++ replicate (n - (start (l .slots) + length (flat fs)) + sizeOf k - new) 0))
+  refitBody = take (place 0 fs k) (flat fs) ++ (take new (take (sizeOf k)
+      (drop (place 0 fs k) (flat fs)) ++ (drop (place 0 fs k + sizeOf k) (flat fs) ++ replicate (n - (start (l .slots) + length (flat fs))) 0)) ++ (drop
+      (place 0 fs k + sizeOf k) (flat fs) ++ replicate (n - (start (l .slots) + length (flat fs)) + sizeOf k - new) 0))
 
   pub refit-image : refitted (l .slots) (image l n fs) (place (start (l .slots)) fs k) (sizeOf k) new (start (l .slots) + length (flat fs))
-      ≡ head l (length fs) (start (l .slots) + length (flat fs) - sizeOf k + new) (λ x. shiftedAt (place (start (l .slots)) fs k) (sizeOf k) new (place (start (l .slots)) fs x)) ++ refitBody
+      ≡ head l (length fs) (start (l .slots) + length (flat fs) - sizeOf k + new)
+      (λ x. shiftedAt (place (start (l .slots)) fs k) (sizeOf k) new (place (start (l .slots)) fs x)) ++ refitBody
   unfolding refitted moved image
   refit-image =
-      ap (λ (x : List ℕ). setWord (mv x) 2 (E - old + new)) (ap (λ (x : List ℕ). remap φ (l .slots) (x ++ (flat fs ++ Z)) 0) (header-head l fs) ∙ head-remap l φ (length fs) E (flat fs ++ Z) (l .slots) 0 (place A fs) h1 (omega arith) (λ x u v. refl) (λ x u. absurd (omega arith)) (omega arith))
+      ap (λ (x : List ℕ). setWord (mv x) 2 (E - old + new)) (ap (λ (x : List ℕ). remap φ (l .slots) (x ++ (flat fs ++ Z)) 0) (header-head l fs)
+      ∙ head-remap l φ (length fs) E (flat fs ++ Z) (l .slots) 0 (place A fs) h1 (omega arith) (λ x u v. refl) (λ x u. absurd (omega arith)) (omega arith))
       ∙ ap (λ (x : List ℕ). setWord x 2 (E - old + new)) bytes
       ∙ head-end l (length fs) E (E - old + new) h1 B
     where
@@ -263,7 +280,8 @@ module _ (l : Layout) (n k new : ℕ) (fs : List (List ℕ)) (s : Sound fs) (h :
       dh = head-length l (length fs) E h1
 
       parts : flat fs ≡ H ++ (D ++ T)
-      parts = sym (take-append-drop o (flat fs)) ∙ ap (λ (x : List ℕ). H ++ x) (sym (take-append-drop old (drop o (flat fs))) ∙ ap (λ (x : List ℕ). D ++ x) (drop-drop old o (flat fs)))
+      parts = sym (take-append-drop o (flat fs)) ∙ ap (λ (x : List ℕ). H ++ x)
+          (sym (take-append-drop old (drop o (flat fs))) ∙ ap (λ (x : List ℕ). D ++ x) (drop-drop old o (flat fs)))
 
       whole : flat fs ++ Z ≡ H ++ (D ++ (T ++ Z))
       whole = ap (λ (x : List ℕ). x ++ Z) parts ∙ append-assoc H (D ++ T) Z ∙ ap (λ (x : List ℕ). H ++ x) (append-assoc D T Z)
@@ -272,7 +290,8 @@ module _ (l : Layout) (n k new : ℕ) (fs : List (List ℕ)) (s : Sound fs) (h :
       body =
           ap (λ (x : List ℕ). paste (paste x (o + new) (T ++ Z) t) (o + (new + t)) (replicate (old - new) 0) (old - new)) whole
           ∙ subst (λ (x : ℕ). paste (paste (H ++ (D ++ (T ++ Z))) (x + new) (T ++ Z) t) (x + (new + t)) (replicate (old - new) 0) (old - new) ≡ B) hl
-          (subst (λ (x : ℕ). paste (paste (H ++ (D ++ (T ++ Z))) (length H + new) (T ++ Z) t) (length H + (new + t)) (replicate (x - new) 0) (x - new) ≡ H ++ (take new (D ++ (T ++ Z)) ++ (T ++ replicate (z + x - new) 0))) dl
+          (subst (λ (x : ℕ). paste (paste (H ++ (D ++ (T ++ Z))) (length H + new) (T ++ Z) t) (length H + (new + t)) (replicate (x - new) 0)
+          (x - new) ≡ H ++ (take new (D ++ (T ++ Z)) ++ (T ++ replicate (z + x - new) 0))) dl
           (body-moved H D T new z (omega (arith, dl, in-F, fit, had))))
 
       source : drop (at + old) (hd ++ (flat fs ++ Z)) ≡ T ++ Z
@@ -281,7 +300,8 @@ module _ (l : Layout) (n k new : ℕ) (fs : List (List ℕ)) (s : Sound fs) (h :
           i : at + old ≡ length hd + (o + old)
           i = omega (arith, at-o, dh)
 
-      bytes : paste (paste (hd ++ (flat fs ++ Z)) (at + new) (drop (at + old) (hd ++ (flat fs ++ Z))) (E - (at + old))) (E - old + new) (replicate (old - new) 0) (old - new) ≡ hd ++ B
+      bytes : paste (paste (hd ++ (flat fs ++ Z)) (at + new) (drop (at + old) (hd ++ (flat fs ++ Z))) (E - (at + old))) (E - old + new)
+          (replicate (old - new) 0) (old - new) ≡ hd ++ B
       bytes =
           ap₂ (λ (x : List ℕ) (i : ℕ). paste x i (replicate (old - new) 0) (old - new))
           (ap₂ (λ (i c : ℕ). paste (hd ++ (flat fs ++ Z)) i (drop (at + old) (hd ++ (flat fs ++ Z))) c) i1 c1
@@ -306,7 +326,8 @@ unfolding image takenOut header
 taken-image l n k fs s h fits =
     ap (λ (y : List ℕ). set y 1 (length fs - 1)) (refit-image l n k 0 fs s h fits (omega (arith, room, fits)))
     ∙ head-count l (length fs) (E - L + 0) (length fs - 1) h1 rest
-    ∙ ap (λ (y : List ℕ). y ++ rest) (head-same l (length fs - 1) (E - L + 0) h1 (place (start (l .slots)) (without k fs)) (λ x. sym (place-without (start (l .slots)) k fs (omega arith) s h x)))
+    ∙ ap (λ (y : List ℕ). y ++ rest) (head-same l (length fs - 1) (E - L + 0) h1 (place (start (l .slots)) (without k fs))
+    (λ x. sym (place-without (start (l .slots)) k fs (omega arith) s h x)))
     ∙ ap₂ (λ (c e : ℕ). head l c e (place (start (l .slots)) (without k fs)) ++ rest) count ends
     ∙ ap₂ (λ (x y : List ℕ). x ++ y) (sym (header-head l (without k fs))) tail
   where
@@ -332,7 +353,8 @@ taken-image l n k fs s h fits =
     rest = take o (flat fs) ++ (T ++ replicate (n - (start (l .slots) + length (flat fs)) + sizeOf k - 0) 0)
 
     gone : length (flat (without k fs)) ≡ o + (length (flat fs) - (o + L))
-    gone = ap length (flat-without k fs s h) ∙ length-append (take o (flat fs)) T ∙ ap₂ (λ (x y : ℕ). x + y) (length-take-le o (flat fs) (omega (arith, room))) (length-drop (o + L) (flat fs))
+    gone = ap length (flat-without k fs s h) ∙ length-append (take o (flat fs)) T
+        ∙ ap₂ (λ (x y : ℕ). x + y) (length-take-le o (flat fs) (omega (arith, room))) (length-drop (o + L) (flat fs))
 
     count : length fs - 1 ≡ length (without k fs)
     count = omega (arith, length-without k fs h)
@@ -369,7 +391,8 @@ module _ (l : Layout) (b : List ℕ) (B : Bytes b) (h : Holds l b) (k s : ℕ) (
 
   module _ (a : s < settings) (am : s < l .slots) (at : ℕ) (o : at ≡ offsetAt b s) where
     pub remove-absent : at ≡ 0 → Gives l (removeOn k) [] b (Refused NotHeld) [] b
-    remove-absent z = stay l b B h (removeOn k) [] (Refused NotHeld) [] (removeOn-absent k s own [] (roomOf l (length b)) (h .frames) a (not-held l b B h s at am o z))
+    remove-absent z = stay l b B h (removeOn k) [] (Refused NotHeld) []
+        (removeOn-absent k s own [] (roomOf l (length b)) (h .frames) a (not-held l b B h s at am o z))
 
     module _ (n : at ≡ 0 → ⊥) where
       pub stands-past : start (l .slots) ≤ at
@@ -384,7 +407,8 @@ module _ (l : Layout) (b : List ℕ) (B : Bytes b) (h : Holds l b) (k s : ℕ) (
           (removeOn-done k s own [] (roomOf l (length b)) (h .frames) a hk)
           (p
           ∙ ap₂ (λ (i j : ℕ). takenOut (l .slots) b i (sizeOf s) j) (o ∙ offsets l b (h .frames) (holds-reads l b h) s am) (q ∙ end-is l b B h)
-          ∙ ap (λ (x : List ℕ). takenOut (l .slots) x (place (start (l .slots)) (h .frames) s) (sizeOf s) (start (l .slots) + length (flat (h .frames)))) (is-image l b B h)
+          ∙ ap (λ (x : List ℕ). takenOut (l .slots) x (place (start (l .slots)) (h .frames) s) (sizeOf s) (start (l .slots) + length (flat (h .frames))))
+          (is-image l b B h)
           ∙ taken-image l (length b) s (h .frames) (tiling l b B h .sound) hk (omega (arith, end-is l b B h, holds-reads l b h .high)))
         where
           hk : held s (h .frames) ≡ true

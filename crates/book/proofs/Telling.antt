@@ -24,7 +24,7 @@ use Rattle.contents.specs.Contents.{Layout, framesFrom, header, holds, image, l
 use Rattle.contents.proofs.Shape.{Sound, place-from, place-in, place-shift}
 use Rattle.contents.proofs.Judged.{Bytes, Split, framesFrom-none, framesFrom-split, offsets}
 use Rattle.contents.proofs.Headers.{header-length}
-use Rattle.contents.proofs.Steps.{minus-end, minus-step, slot-fits}
+use Rattle.contents.proofs.Loops.{minus-end, minus-step, slot-fits}
 use Rattle.book.specs.Plain.{askOn, frameOf, refuse, replayOn, tell}
 use Rattle.book.proofs.Known.{count-is, end-is, is-held, is-image, not-held, stay, tiling}
 use Rattle.book.specs.Edits.{Tiles, reelFrom}
@@ -73,7 +73,8 @@ set-lay o w v h = set-split o w v h ∙ ap (λ (n : ℕ). take w o ++ v ∷ drop
 
 -- ---- tell
 
-tell-fits : (x o : List ℕ) (fs : List (List ℕ)) (n : ℕ) → length x ≡ n → n ≤ length o → tell x o fs ≡ record { answer = Done n; output = lay o 0 x; frames = fs }
+tell-fits : (x o : List ℕ) (fs : List (List ℕ)) (n : ℕ) → length x ≡ n → n ≤ length o
+    → tell x o fs ≡ record { answer = Done n; output = lay o 0 x; frames = fs }
 tell-fits x o fs n e h =
     subst (λ (m : ℕ). tell x o fs ≡ record { answer = Done m; output = lay o 0 x; frames = fs }) e
     (rw (le-leb (length x) (length o) (omega arith)) (ap (λ (i : ℕ). record { answer = Done (length x); output = x ++ drop i o; frames = fs }) (z (length x))))
@@ -91,7 +92,8 @@ unfolding flat held place frameOf
 frame-flat k [] s h = absurd (false≢true h)
 frame-flat k (g ∷ fs) s h = go (frame-flat k fs (s .2)) (eqb (slotOf g) k) refl h
   where
-    go : (held k fs ≡ true → take (sizeOf k) (drop (place 0 fs k) (flat fs)) ≡ frameOf k fs) → (t : Bool) → eqb (slotOf g) k ≡ t → cond t true (held k fs) ≡ true
+    go : (held k fs ≡ true → take (sizeOf k) (drop (place 0 fs k) (flat fs)) ≡ frameOf k fs) → (t : Bool) → eqb (slotOf g) k ≡ t
+        → cond t true (held k fs) ≡ true
         → take (sizeOf k) (drop (cond t 0 (place (0 + length g) fs k)) (g ++ flat fs)) ≡ cond t g (frameOf k fs)
     go ih true e q = take-at g (flat fs) (sizeOf k) (omega (arith, slotOf-length g (s .0), ap sizeOf (eqb-true (slotOf g) k e)))
     go ih false e q = ap (λ (i : ℕ). take (sizeOf k) (drop i (g ++ flat fs))) i ∙ ap (take (sizeOf k)) (drop-append-add g (flat fs) (place 0 fs k)) ∙ ih q
@@ -99,11 +101,13 @@ frame-flat k (g ∷ fs) s h = go (frame-flat k fs (s .2)) (eqb (slotOf g) k) ref
         i : place (0 + length g) fs k ≡ length g + place 0 fs k
         i = omega (arith, place-shift (length g) 0 fs k q)
 
-frame-image : (l : Layout) (n k : ℕ) (fs : List (List ℕ)) → Sound fs → held k fs ≡ true → take (sizeOf k) (drop (place (start (l .slots)) fs k) (image l n fs)) ≡ frameOf k fs
+frame-image : (l : Layout) (n k : ℕ) (fs : List (List ℕ)) → Sound fs → held k fs ≡ true
+    → take (sizeOf k) (drop (place (start (l .slots)) fs k) (image l n fs)) ≡ frameOf k fs
 unfolding image
 frame-image l n k fs s h =
     ap (λ (i : ℕ). take (sizeOf k) (drop i (header l fs ++ (flat fs ++ Z)))) i
-    ∙ ap (take (sizeOf k)) (drop-append-add (header l fs) (flat fs ++ Z) (place 0 fs k) ∙ drop-append-le (place 0 fs k) (flat fs) Z (omega (arith, place-in 0 fs k s h)))
+    ∙ ap (take (sizeOf k)) (drop-append-add (header l fs) (flat fs ++ Z) (place 0 fs k)
+    ∙ drop-append-le (place 0 fs k) (flat fs) Z (omega (arith, place-in 0 fs k s h)))
     ∙ take-append-le (sizeOf k) (drop (place 0 fs k) (flat fs)) Z (omega (arith, place-in 0 fs k s h, length-drop (place 0 fs k) (flat fs)))
     ∙ frame-flat k fs s h
   where
@@ -146,14 +150,18 @@ module _ (l : Layout) (b : List ℕ) (B : Bytes b) (h : Holds l b) (o : List ℕ
       pub ask-short : at + (sizeOf s) ≤ length b → length o < sizeOf s → Gives l (askOn k) o b (Refused OutputShort) o b
       ask-short r w =
           stay l b B h (askOn k) o (Refused OutputShort) o
-          (askOn-held k s own o (roomOf l (length b)) (h .frames) a (is-held l b B h s at am q n) ∙ tell-short (frameOf s (h .frames)) o (h .frames) (omega (arith, frame-length r)))
+          (askOn-held k s own o (roomOf l (length b)) (h .frames) a (is-held l b B h s at am q n)
+          ∙ tell-short (frameOf s (h .frames)) o (h .frames) (omega (arith, frame-length r)))
 
-      pub ask-done : (x r : List ℕ) → at + (sizeOf s) ≤ length b → sizeOf s ≤ length o → r ≡ take (at + (sizeOf s) - at) (drop at b) → x ≡ written o 0 r → Gives l (askOn k) o b (Done (sizeOf s)) x b
+      pub ask-done : (x r : List ℕ) → at + (sizeOf s) ≤ length b → sizeOf s ≤ length o → r ≡ take (at + (sizeOf s) - at) (drop at b) → x ≡ written o 0 r
+          → Gives l (askOn k) o b (Done (sizeOf s)) x b
       ask-done x r i w e p =
           stay l b B h (askOn k) o (Done (sizeOf s)) x
           (askOn-held k s own o (roomOf l (length b)) (h .frames) a (is-held l b B h s at am q n)
           ∙ tell-fits (frameOf s (h .frames)) o (h .frames) (sizeOf s) (frame-length i) w
-          ∙ ap (λ (y : List ℕ). record { answer = Done (sizeOf s); output = y; frames = h .frames }) (sym (p ∙ written-fits o 0 r (omega (arith, size)) ∙ paste-lay o 0 r (length r) refl ∙ ap (lay o 0) (e ∙ ap (λ (n : ℕ). take n (drop at b)) (c at (sizeOf s)) ∙ frame-at))))
+          ∙ ap (λ (y : List ℕ). record { answer = Done (sizeOf s); output = y; frames = h .frames })
+          (sym (p ∙ written-fits o 0 r (omega (arith, size)) ∙ paste-lay o 0 r (length r) refl
+          ∙ ap (lay o 0) (e ∙ ap (λ (n : ℕ). take n (drop at b)) (c at (sizeOf s)) ∙ frame-at))))
         where
           c : (x y : ℕ) → x + y - x ≡ y
           c x y = omega arith
@@ -181,7 +189,8 @@ reelFrom-end m n b p e w i o h = ap (λ (x : ℕ). reelFrom m x b p e w o) (minu
 reel-lay : (m c : ℕ) (b : List ℕ) (p e : ℕ) (fs : List (List ℕ)) (w : ℕ) (o : List ℕ) → framesFrom m c b p e ≡ holds fs → w + length (reelOf fs) ≤ length o
     → reelFrom m c b p e w o ≡ lay o w (reelOf fs)
 unfolding reelFrom reelOf
-reel-lay m zero b p e fs w o h r = subst (λ (x : List (List ℕ)). o ≡ lay o w (reelOf x)) (framesFrom-none m b p e fs h) (sym (ap (λ (n : ℕ). take w o ++ drop n o) (z w) ∙ take-append-drop w o))
+reel-lay m zero b p e fs w o h r = subst (λ (x : List (List ℕ)). o ≡ lay o w (reelOf x)) (framesFrom-none m b p e fs h)
+    (sym (ap (λ (n : ℕ). take w o ++ drop n o) (z w) ∙ take-append-drop w o))
   where
     z : (w : ℕ) → w + 0 ≡ w
     z w = omega arith
@@ -230,13 +239,15 @@ module _ (l : Layout) (b : List ℕ) (B : Bytes b) (h : Holds l b) (o : List ℕ
   unfolding replayOn
   replay-short w = stay l b B h replayOn o (Refused OutputShort) o (tell-short (reelOf (h .frames)) o (h .frames) (omega (arith, size)))
 
-  pub replay-done : (x : List ℕ) → e - start (l .slots) + c ≤ length o → x ≡ reelFrom (l .slots) c b (start (l .slots)) e 0 o → Gives l replayOn o b (Done (e - start (l .slots) + c)) x b
+  pub replay-done : (x : List ℕ) → e - start (l .slots) + c ≤ length o → x ≡ reelFrom (l .slots) c b (start (l .slots)) e 0 o
+      → Gives l replayOn o b (Done (e - start (l .slots) + c)) x b
   unfolding replayOn
   replay-done x w p =
       stay l b B h replayOn o (Done (e - start (l .slots) + c)) x
       (tell-fits (reelOf (h .frames)) o (h .frames) (e - start (l .slots) + c) size w
       ∙ ap (λ (y : List ℕ). record { answer = Done (e - start (l .slots) + c); output = y; frames = h .frames })
-      (sym (p ∙ reel-lay (l .slots) c b (start (l .slots)) e (h .frames) 0 o (ap₂ (λ (i j : ℕ). framesFrom (l .slots) i b (start (l .slots)) j) qc qe ∙ holds-reads l b h .tiled) (omega (arith, size)))))
+      (sym (p ∙ reel-lay (l .slots) c b (start (l .slots)) e (h .frames) 0 o
+      (ap₂ (λ (i j : ℕ). framesFrom (l .slots) i b (start (l .slots)) j) qc qe ∙ holds-reads l b h .tiled) (omega (arith, size)))))
 
 -- ---- a part of a slice, as the code lends it
 
@@ -261,7 +272,8 @@ pub record Onward (m k : ℕ) (b : List ℕ) (p e n : ℕ) : Type 0 where
   pub ends : p + n ≤ e
   pub rest : Tiles m k b (p + n) e
 
-pub tiles-step : (m c i : ℕ) (b : List ℕ) (p e n : ℕ) → i < c → start m ≤ length b → n ≡ sizeOf (slotAt m b p) → Tiles m (c - i) b p e → Onward m (c - (i + 1)) b p e n
+pub tiles-step : (m c i : ℕ) (b : List ℕ) (p e n : ℕ) → i < c → start m ≤ length b → n ≡ sizeOf (slotAt m b p) → Tiles m (c - i) b p e
+    → Onward m (c - (i + 1)) b p e n
 tiles-step m c i b p e n h fits en t =
     let k : c - i ≡ suc (c - (i + 1)) = omega arith in
     let s = framesFrom-split m (c - (i + 1)) b p e (t .frames) (ap (λ (x : ℕ). framesFrom m x b p e) (sym k) ∙ t .reads) in

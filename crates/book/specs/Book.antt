@@ -48,7 +48,8 @@ call l s o b = onContents l s o b (opened l b)
 unfoldable pub made : Layout → List ℕ → Outcome
 made l b =
     cond (leb (start (l .slots)) (length b))
-    (cond (leb (length b) longest) (record { answer = Done 0; output = []; bytes = image l (length b) [] }) (record { answer = Refused BufferSize; output = []; bytes = b }))
+    (cond (leb (length b) longest) (record { answer = Done 0; output = []; bytes = image l (length b) [] })
+    (record { answer = Refused BufferSize; output = []; bytes = b }))
     (record { answer = Refused BufferSize; output = []; bytes = b })
 
 -- ---- what a contract permits: an outcome's answer with its bytes, or with its output, and no other

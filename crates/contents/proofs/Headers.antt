@@ -1,7 +1,7 @@
 -- The header of a book, by its count, its end and its offsets: how long it is, and what is read in it.
 -- Assumes nothing.
-use mathlib.Core.Path.{ap, ap₂, refl, sym, _∙_, _≡_}
-use mathlib.Core.List.{List, [], _++_, _∷_}
+use mathlib.Core.Path.{ap, ap₂, refl, _∙_, _≡_}
+use mathlib.Core.List.{List, _++_, _∷_}
 use Prim.Native.Nat.{suc, zero, ℕ, _%_, _*_, _+_, _/_, _<_, _≤_}
 use native.Mathlib.Nat.{le-refl}
 use native.Mathlib.Omega.{arith}

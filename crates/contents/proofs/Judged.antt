@@ -5,7 +5,6 @@ use mathlib.Core.Path.{ap, ap₂, refl, subst, sym, _∙_, _≡_}
 use mathlib.Core.Bool.{Bool, cond, false, false≢true, not, true}
 use mathlib.Core.List.{List, [], append-assoc, _++_, _∷_}
 use Prim.Native.Nat.{suc, zero, ℕ, _%_, _*_, _+_, _-_, _/_, _<_, _≤_}
-use native.Mathlib.Nat.{le-refl}
 use native.Mathlib.Numerals.{add-one}
 use native.Mathlib.Omega.{arith}
 use borrow.Author.Tests.{eqb-false, eqb-true, leb-true, ltb-true, ne-eqb, not-false}
@@ -18,14 +17,19 @@ use Rattle.table.specs.Table.{settings}
 use Rattle.settings.specs.Settings.{sizeOf, slotOf}
 use Rattle.settings.proofs.Settings.{size-low, size-some, slotOf-length}
 use Rattle.contents.specs.Frames.{flat, held, place}
-use Rattle.contents.specs.Contents.{Contents, Layout, allZero, before, framesFrom, header, holds, image, judge, lengthAt, lengthBy, longest, offsetAt, presentFrom, refused, slotFrom, start, wordAt, words}
+use Rattle.contents.specs.Contents.{Contents, Layout, allZero, before, framesFrom, header, holds, image, judge, lengthAt, lengthBy, longest, offsetAt}
+use Rattle.contents.specs.Contents.{presentFrom, refused, slotFrom, start, wordAt, words}
 use Rattle.contents.proofs.Headers.{words-cong}
 use Rattle.contents.proofs.Shape.{Sound, Within, count-held, count-same, countFrom, place-ge, place-none, present-count}
 
 -- ---- inversion
 
+-- what two cases of a type would be, were they one
+pub apart : _≡_ {A = ℕ} 0 1 → ⊥
+apart e = omega arith
+
 never : (r : Refusal) (fs : List (List ℕ)) → refused r ≡ holds fs → ⊥
-never r fs h = let z : _≡_ {A = ℕ} 0 1 = cc in omega arith
+never r fs h = apart (cc)
 
 given-holds : (t : Bool) (x : Contents) (r : Refusal) (fs : List (List ℕ)) → cond t x (refused r) ≡ holds fs → (t ≡ true) × (x ≡ holds fs)
 given-holds true x r fs h = (refl, h)
@@ -91,7 +95,14 @@ lengthBy-found m k b p e n = go (ltb k m) (leb (p + (sizeOf k)) e) (eqb (slotOf 
     go true false z p1 p2 p3 = absurd (n (rw (p1, p2)))
     go true true false p1 p2 p3 = absurd (n (rw (p1, p2, p3)))
     go true true true p1 p2 p3 =
-        record { slot = size-some k (λ z. n (rw (p1, p2, p3) z)); among = ltb-true _ _ p1; within = leb-true _ _ p2; decodes = eqb-true _ _ p3; long = rw (p1, p2, p3) }
+        record {
+          slot = size-some k (λ z. n (rw (p1, p2, p3) z));
+          among = ltb-true _ _ p1;
+          within = leb-true _ _ p2;
+          decodes = eqb-true _ _ p3;
+          long = rw
+              (p1, p2, p3);
+        }
 
 slotFrom-at : (l : ℕ) (b : List ℕ) (p k : ℕ) → slotFrom l b p k < k + l → offsetAt b (slotFrom l b p k) ≡ p
 unfolding slotFrom
@@ -152,7 +163,8 @@ unfolding flat held
 tiled-none m b p e h =
     record { many = refl; ends = omega arith; body = ap (λ (x : ℕ). drop x b) h; sound = tt; within = tt; stand = λ j q. absurd (false≢true q) }
 
-tiled-more : (m : ℕ) (b : List ℕ) (p e c k l : ℕ) (f : List ℕ) (fs : List (List ℕ)) → take l (drop p b) ≡ f → l ≡ sizeOf k → k < settings → k < m → slotOf f ≡ k → offsetAt b k ≡ p
+tiled-more : (m : ℕ) (b : List ℕ) (p e c k l : ℕ) (f : List ℕ) (fs : List (List ℕ)) → take l (drop p b) ≡ f → l ≡ sizeOf k → k < settings → k < m
+    → slotOf f ≡ k → offsetAt b k ≡ p
     → Tiled m b (p + l) e c fs → Tiled m b p e (suc c) (f ∷ fs)
 unfolding flat held place
 tiled-more m b p e c k l f fs hf hl hk hm hs ho t =
@@ -191,7 +203,8 @@ framesFrom-tiled m (suc c) b p e fs h =
     let r = before-holds (take l (drop p b)) (framesFrom m c b (p + l) e) fs (s .1) in
     let g = lengthBy-found m k b p e (eqb-false l 0 (s .0)) in
     subst (λ (x : List (List ℕ)). Tiled m b p e (suc c) x) (sym (r .whole))
-    (tiled-more m b p e c k l (take l (drop p b)) (r .rest) refl (g .long) (g .slot) (g .among) (ap (λ (x : ℕ). slotOf (take x (drop p b))) (g .long) ∙ g .decodes) (slotFrom-at m b p 0 (omega (arith, g .among)))
+    (tiled-more m b p e c k l (take l (drop p b)) (r .rest) refl (g .long) (g .slot) (g .among)
+    (ap (λ (x : ℕ). slotOf (take x (drop p b))) (g .long) ∙ g .decodes) (slotFrom-at m b p 0 (omega (arith, g .among)))
     (framesFrom-tiled m c b (p + l) e (r .rest) (r .reads)))
 
 -- ---- the bytes are the image
@@ -278,7 +291,8 @@ reads-image l b fs B R =
     ∙ ap₂ (λ (x : ℕ) (r : List ℕ). x / 256 ∷ x % 256 ∷ r) (sym (t .ends))
     (words-first (l .slots) b B (R .small)
     ∙ ap₂ (λ (r s : List ℕ). r ++ s) (words-cong (l .slots) 0 (offsetAt b) (place (start (l .slots)) fs) (λ j x y. offsets l b fs R j (omega arith)))
-    (t .body ∙ ap (λ (r : List ℕ). flat fs ++ r) (zeros (drop (wordAt b 2) b) (R .tail) ∙ ap (λ (n : ℕ). replicate n 0) (length-drop (wordAt b 2) b ∙ ap (λ (n : ℕ). length b - n) (sym (t .ends))))))))
+    (t .body ∙ ap (λ (r : List ℕ). flat fs ++ r) (zeros (drop (wordAt b 2) b) (R .tail)
+    ∙ ap (λ (n : ℕ). replicate n 0) (length-drop (wordAt b 2) b ∙ ap (λ (n : ℕ). length b - n) (sym (t .ends))))))))
   where
     t : Tiled (l .slots) b (start (l .slots)) (wordAt b 2) (getD b 1 0) fs
     t = framesFrom-tiled (l .slots) (getD b 1 0) b (start (l .slots)) (wordAt b 2) fs (R .tiled)

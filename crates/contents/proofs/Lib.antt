@@ -1,6 +1,6 @@
 pub mod Shape
 pub mod Headers
-pub mod Steps
+pub mod Loops
 pub mod Judged
 pub mod Written
 pub mod Places

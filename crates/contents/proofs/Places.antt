@@ -2,14 +2,15 @@
 -- Assumes nothing.
 use mathlib.Core.Path.{ap, refl, sym, _∙_, _≡_}
 use mathlib.Core.Bool.{Bool, cond, false, true}
-use mathlib.Core.List.{List, [], _∷_}
+use mathlib.Core.List.{List, []}
 use Prim.Native.Nat.{suc, zero, ℕ, _+_}
 use lib.Dec.{eqb, leb}
 use lib.ListN.{drop, getD, length, take}
 use Rattle.refusal.specs.declared.Refusal.{Refusal}
 use Rattle.refusal.specs.declared.Refusal.the-variants.{BufferSize, NotWellFormed}
 use Rattle.refusal.specs.Numbers.{placeOf}
-use Rattle.contents.specs.Contents.{Contents, Layout, allZero, before, framesFrom, given, holds, judge, lengthAt, longest, presentFrom, refused, start, wordAt}
+use Rattle.contents.specs.Contents.{Contents, Layout, allZero, before, framesFrom, given, holds, judge, lengthAt, longest, presentFrom, refused, start}
+use Rattle.contents.specs.Contents.{wordAt}
 
 abbrev spot : Contents → ℕ
 spot (refused x) = placeOf x

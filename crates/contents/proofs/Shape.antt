@@ -58,7 +58,8 @@ place-shift d p (f ∷ fs) k h = go (place-shift d (p + length f) fs k) (eqb (sl
     swap : p + d + length f ≡ p + length f + d
     swap = omega arith
 
-    go : (held k fs ≡ true → place (p + length f + d) fs k ≡ place (p + length f) fs k + d) → (t : Bool) → cond t true (held k fs) ≡ true → cond t (p + d) (place (p + d + length f) fs k) ≡ cond t p (place (p + length f) fs k) + d
+    go : (held k fs ≡ true → place (p + length f + d) fs k ≡ place (p + length f) fs k + d) → (t : Bool) → cond t true (held k fs) ≡ true
+        → cond t (p + d) (place (p + d + length f) fs k) ≡ cond t p (place (p + length f) fs k) + d
     go ih true q = refl
     go ih false q = ap (λ (x : ℕ). place x fs k) swap ∙ ih q
 
@@ -80,7 +81,8 @@ place-in p (f ∷ fs) k s h = go (place-in (p + length f) fs k (s .2)) (eqb (slo
     own : length f ≡ sizeOf (slotOf f)
     own = slotOf-length f (s .0)
 
-    go : (held k fs ≡ true → place (p + length f) fs k + (sizeOf k) ≤ p + length f + length (flat fs)) → (t : Bool) → eqb (slotOf f) k ≡ t → cond t true (held k fs) ≡ true → cond t p (place (p + length f) fs k) + (sizeOf k) ≤ p + length (f ++ flat fs)
+    go : (held k fs ≡ true → place (p + length f) fs k + (sizeOf k) ≤ p + length f + length (flat fs)) → (t : Bool) → eqb (slotOf f) k ≡ t
+        → cond t true (held k fs) ≡ true → cond t p (place (p + length f) fs k) + (sizeOf k) ≤ p + length (f ++ flat fs)
     go ih true e q = omega (arith, len, own, ap sizeOf (eqb-true (slotOf f) k e))
     go ih false e q = omega (arith, len, ih q)
 
@@ -150,7 +152,8 @@ unfolding sumFrom
 count-le zero k q r h = le-refl 0
 count-le (suc l) k q r h = go (count-le l (k + 1) q r h) (q k) (r k) refl refl
   where
-    go : countFrom l q (k + 1) ≤ countFrom l r (k + 1) → (a b : Bool) → q k ≡ a → r k ≡ b → cond (q k) 1 0 + countFrom l q (k + 1) ≤ cond (r k) 1 0 + countFrom l r (k + 1)
+    go : countFrom l q (k + 1) ≤ countFrom l r (k + 1) → (a b : Bool) → q k ≡ a → r k ≡ b
+        → cond (q k) 1 0 + countFrom l q (k + 1) ≤ cond (r k) 1 0 + countFrom l r (k + 1)
     go rest true true x y = rw (x, y) (omega arith)
     go rest true false x y = absurd (false≢true (sym y ∙ h k x))
     go rest false true x y = rw (x, y) (omega arith)
@@ -170,7 +173,8 @@ count-same (suc l) k q r h e j a b n = go (λ e' x y. count-same l (k + 1) q r h
     same true u v = let w = rw (u, v) at e in omega arith
     same false u v = let w = rw (u, v) at e in omega arith
 
-    go : (countFrom l q (k + 1) ≡ countFrom l r (k + 1) → k + 1 ≤ j → j < k + 1 + l → r j ≡ false) → (x y : Bool) → q k ≡ x → r k ≡ y → (t : Bool) → eqb k j ≡ t → r j ≡ false
+    go : (countFrom l q (k + 1) ≡ countFrom l r (k + 1) → k + 1 ≤ j → j < k + 1 + l → r j ≡ false) → (x y : Bool) → q k ≡ x → r k ≡ y → (t : Bool)
+        → eqb k j ≡ t → r j ≡ false
     go ih true false u v t z = absurd (false≢true (sym v ∙ h k u))
     go ih false true u v t z = let w = rw (u, v) at e in absurd (omega (arith, rest))
     go ih true true u v true z = absurd (false≢true (sym n ∙ ap q (sym (eqb-true k j z)) ∙ u))

@@ -15,10 +15,11 @@ use Rattle.table.specs.Table.{settings}
 use Rattle.settings.specs.Settings.{sizeOf, slotOf}
 use Rattle.settings.proofs.Settings.{size-low, slotOf-length}
 use Rattle.contents.specs.Frames.{flat, held, place}
-use Rattle.contents.specs.Contents.{Layout, allZero, before, framesFrom, header, holds, image, judge, lengthAt, lengthBy, longest, offsetAt, presentFrom, slotFrom, start, wordAt}
+use Rattle.contents.specs.Contents.{Layout, allZero, before, framesFrom, header, holds, image, judge, lengthAt, lengthBy, longest, offsetAt}
+use Rattle.contents.specs.Contents.{presentFrom, slotFrom, start, wordAt}
 use Rattle.contents.proofs.Shape.{Sound, Within, count-held, countFrom, place-ge, place-none, present-count, sumFrom}
 use Rattle.contents.proofs.Headers.{head, head-get, header-length}
-use Rattle.contents.proofs.Steps.{judge-all}
+use Rattle.contents.proofs.Loops.{judge-all}
 
 slotFrom-is : (l : ℕ) (b : List ℕ) (p k s : ℕ) → k ≤ s → s < k + l → offsetAt b s ≡ p → ((j : ℕ) → j < s → offsetAt b j ≡ p → ⊥) → slotFrom l b p k ≡ s
 unfolding slotFrom
@@ -29,7 +30,8 @@ slotFrom-is (suc l) b p k s a c e n = go (λ x. slotFrom-is l b p (k + 1) s x (o
     go ih true w = let q : k ≡ s = eqb-true k s w in rw (eq-eqb (offsetAt b k) p (ap (offsetAt b) q ∙ e)) q
     go ih false w = let q : k ≡ s → ⊥ = eqb-false k s w in rw (ne-eqb (offsetAt b k) p (n k (omega arith))) (ih (omega arith))
 
-lengthAt-is : (m : ℕ) (b : List ℕ) (p e : ℕ) (f r : List ℕ) → slotOf f < settings → slotOf f < m → p + length f ≤ e → drop p b ≡ f ++ r → slotFrom m b p 0 ≡ slotOf f → lengthAt m b p e ≡ length f
+lengthAt-is : (m : ℕ) (b : List ℕ) (p e : ℕ) (f r : List ℕ) → slotOf f < settings → slotOf f < m → p + length f ≤ e → drop p b ≡ f ++ r
+    → slotFrom m b p 0 ≡ slotOf f → lengthAt m b p e ≡ length f
 unfolding lengthAt lengthBy
 lengthAt-is m b p e f r a am w d s =
     rw (s, lt-ltb _ _ am, le-leb (p + (sizeOf (slotOf f))) e (omega (arith, len)), eq-eqb _ _ slot) (sym len)
@@ -103,11 +105,19 @@ frames-of m b (f ∷ fs) p e r s v t d at out =
 pub image-length : (l : Layout) (n : ℕ) (fs : List (List ℕ)) → start (l .slots) + length (flat fs) ≤ n → length (image l n fs) ≡ n
 unfolding image
 image-length l n fs h =
-    omega (arith, length-append (header l fs) (flat fs ++ replicate (n - (start (l .slots) + length (flat fs))) 0), length-append (flat fs) (replicate (n - (start (l .slots) + length (flat fs))) 0), header-length l fs, length-replicate {A = ℕ} (n - (start (l .slots) + length (flat fs))) 0)
+    omega (
+      arith,
+      length-append (header l fs) (flat fs ++ replicate (n - (start (l .slots) + length (flat fs))) 0),
+      length-append (flat fs)
+          (replicate (n - (start (l .slots) + length (flat fs))) 0),
+      header-length l fs,
+      length-replicate {A = ℕ} (n - (start (l .slots) + length (flat fs))) 0,
+    )
 
 pub image-offset : (l : Layout) (n : ℕ) (fs : List (List ℕ)) (k : ℕ) → k < l .slots → offsetAt (image l n fs) k ≡ place (start (l .slots)) fs k
 unfolding image header head
-image-offset l n fs k a = head-get l (length fs) (start (l .slots) + length (flat fs)) (place (start (l .slots)) fs) (flat fs ++ replicate (n - (start (l .slots) + length (flat fs))) 0) k a
+image-offset l n fs k a = head-get l (length fs) (start (l .slots) + length (flat fs)) (place (start (l .slots)) fs)
+    (flat fs ++ replicate (n - (start (l .slots) + length (flat fs))) 0) k a
 
 pub image-end : (l : Layout) (n : ℕ) (fs : List (List ℕ)) → wordAt (image l n fs) 2 ≡ start (l .slots) + length (flat fs)
 unfolding image header wordAt
@@ -124,7 +134,8 @@ image-version : (l : Layout) (n : ℕ) (fs : List (List ℕ)) → getD (image l 
 unfolding image header
 image-version l n fs = refl
 
-image-drop : (l : Layout) (n : ℕ) (fs : List (List ℕ)) → drop (start (l .slots)) (image l n fs) ≡ flat fs ++ replicate (n - (start (l .slots) + length (flat fs))) 0
+image-drop : (l : Layout) (n : ℕ) (fs : List (List ℕ)) → drop (start (l .slots)) (image l n fs) ≡ flat fs ++ replicate
+    (n - (start (l .slots) + length (flat fs))) 0
 unfolding image
 image-drop l n fs = drop-at (header l fs) (flat fs ++ replicate (n - (start (l .slots) + length (flat fs))) 0) (start (l .slots)) (header-length l fs)
 
@@ -135,7 +146,8 @@ zeros-zero (suc m) = zeros-zero m
 
 image-tail : (l : Layout) (n : ℕ) (fs : List (List ℕ)) → allZero (drop (start (l .slots) + length (flat fs)) (image l n fs)) ≡ true
 image-tail l n fs =
-    ap allZero (sym (drop-drop (length (flat fs)) (start (l .slots)) (image l n fs)) ∙ ap (drop (length (flat fs))) (image-drop l n fs) ∙ drop-at (flat fs) (replicate (n - (start (l .slots) + length (flat fs))) 0) (length (flat fs)) refl)
+    ap allZero (sym (drop-drop (length (flat fs)) (start (l .slots)) (image l n fs)) ∙ ap (drop (length (flat fs))) (image-drop l n fs)
+    ∙ drop-at (flat fs) (replicate (n - (start (l .slots) + length (flat fs))) 0) (length (flat fs)) refl)
     ∙ zeros-zero (n - (start (l .slots) + length (flat fs)))
 
 count-cong : (l k : ℕ) (q r : ℕ → Bool) → ((j : ℕ) → k ≤ j → j < k + l → q j ≡ r j) → countFrom l q k ≡ countFrom l r k
@@ -147,19 +159,23 @@ count-cong (suc l) k q r e =
 image-present : (l : Layout) (n : ℕ) (fs : List (List ℕ)) → Sound fs → Within (l .slots) fs → presentFrom (l .slots) (image l n fs) 0 ≡ length fs
 image-present l n fs s v =
     present-count (l .slots) 0 (image l n fs)
-    ∙ count-cong (l .slots) 0 (λ j. not (eqb (offsetAt (image l n fs) j) 0)) (λ j. held j fs) (λ j a b. ap (λ (x : ℕ). not (eqb x 0)) (image-offset l n fs j (omega arith)) ∙ go j (held j fs) refl)
+    ∙ count-cong (l .slots) 0 (λ j. not (eqb (offsetAt (image l n fs) j) 0)) (λ j. held j fs)
+    (λ j a b. ap (λ (x : ℕ). not (eqb x 0)) (image-offset l n fs j (omega arith)) ∙ go j (held j fs) refl)
     ∙ count-held (l .slots) fs s v
   where
     go : (j : ℕ) (x : Bool) → held j fs ≡ x → not (eqb (place (start (l .slots)) fs j) 0) ≡ held j fs
     go j true w = ap not (ne-eqb (place (start (l .slots)) fs j) 0 (λ z. absurd (omega (arith, place-ge (start (l .slots)) fs j w)))) ∙ sym w
     go j false w = ap not (eq-eqb (place (start (l .slots)) fs j) 0 (place-none (start (l .slots)) fs j w)) ∙ sym w
 
-pub image-judge : (l : Layout) (n : ℕ) (fs : List (List ℕ)) → Sound fs → Within (l .slots) fs → start (l .slots) + length (flat fs) ≤ n → n ≤ longest → judge l (image l n fs) ≡ holds fs
+pub image-judge : (l : Layout) (n : ℕ) (fs : List (List ℕ)) → Sound fs → Within (l .slots) fs → start (l .slots) + length (flat fs) ≤ n → n ≤ longest
+    → judge l (image l n fs) ≡ holds fs
 image-judge l n fs s v h big =
-    judge-all l (image l n fs) (omega (arith, len)) (omega (arith, len)) (image-version l n fs) (omega (arith, image-end l n fs)) (omega (arith, len, image-end l n fs))
+    judge-all l (image l n fs) (omega (arith, len)) (omega (arith, len)) (image-version l n fs) (omega (arith, image-end l n fs))
+    (omega (arith, len, image-end l n fs))
     (image-present l n fs s v ∙ sym (image-count l n fs)) (ap (λ (e : ℕ). allZero (drop e (image l n fs))) (image-end l n fs) ∙ image-tail l n fs)
     ∙ ap₂ (λ (c e : ℕ). framesFrom (l .slots) c (image l n fs) (start (l .slots)) e) (image-count l n fs) (image-end l n fs)
-    ∙ frames-of (l .slots) (image l n fs) fs (start (l .slots)) (start (l .slots) + length (flat fs)) (replicate (n - (start (l .slots) + length (flat fs))) 0) s v refl (image-drop l n fs)
+    ∙ frames-of (l .slots) (image l n fs) fs (start (l .slots)) (start (l .slots) + length (flat fs))
+    (replicate (n - (start (l .slots) + length (flat fs))) 0) s v refl (image-drop l n fs)
     (λ j a w. image-offset l n fs j a) (λ j a w. omega (arith, image-offset l n fs j a, place-none (start (l .slots)) fs j w))
   where
     len : length (image l n fs) ≡ n

@@ -1,6 +1,5 @@
 -- A book's bytes: the frames that are read in them (`judge`), and the bytes of a list of frames (`image`), for any layout (REFERENCE, "Book").
 -- Assumes nothing.
-use mathlib.Core.Path.{_≡_}
 use Prim.Native.Nat.{ℕ, zero, suc, _+_, _-_, _*_, _/_, _%_}
 use mathlib.Core.Bool.{Bool, true, false, cond}
 use mathlib.Core.List.{List, [], _∷_, _++_}

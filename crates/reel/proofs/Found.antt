@@ -17,6 +17,10 @@ use Rattle.reel.specs.declared.Step.the-variants.{Frame, End, Refused}
 use Rattle.reel.specs.Reel.{preceded, unreel, frameAt, stepAt}
 use Rattle.reel.proofs.Walks.{from-end, from-frame, from-cut}
 
+-- what the cases of an answer would be, were two of them one
+apart : _≡_ {A = ℕ} 0 1 → ⊥
+apart e = omega arith
+
 pub record Whole (reel : List ℕ) (at start end : ℕ) (next : Cursor) : Type 0 where
   pub behind : start ≡ at + 1
   pub forward : start ≤ end
@@ -57,10 +61,11 @@ module _ (reel : List ℕ) (at : ℕ) where
   step-whole start end next e =
       by (ltb (length reel) at) refl (eqb (length reel) at) refl (leb b (length reel - (at + 1))) refl e
     where
-      by : (x : Bool) → ltb (length reel) at ≡ x → (y : Bool) → eqb (length reel) at ≡ y → (z : Bool) → leb b (length reel - (at + 1)) ≡ z → picked x y z ≡ Frame start end next → Whole reel at start end next
-      by true p y q z r e = absurd (let w : _≡_ {A = ℕ} 0 1 = cc in omega arith)
-      by false p true q z r e = absurd (let w : _≡_ {A = ℕ} 0 1 = cc in omega arith)
-      by false p false q false r e = absurd (let w : _≡_ {A = ℕ} 0 1 = cc in omega arith)
+      by : (x : Bool) → ltb (length reel) at ≡ x → (y : Bool) → eqb (length reel) at ≡ y → (z : Bool) → leb b (length reel - (at + 1)) ≡ z
+          → picked x y z ≡ Frame start end next → Whole reel at start end next
+      by true p y q z r e = absurd (apart (cc))
+      by false p true q z r e = absurd (apart (cc))
+      by false p false q false r e = absurd (apart (cc))
       by false p false q true r e =
           let x : at + 1 ≡ start = cc in
           let y : at + 1 + b ≡ end = cc in
@@ -71,21 +76,23 @@ module _ (reel : List ℕ) (at : ℕ) where
   unfolding stepAt
   step-ended e = by (ltb (length reel) at) refl (eqb (length reel) at) refl (leb b (length reel - (at + 1))) refl e
     where
-      by : (x : Bool) → ltb (length reel) at ≡ x → (y : Bool) → eqb (length reel) at ≡ y → (z : Bool) → leb b (length reel - (at + 1)) ≡ z → picked x y z ≡ End → Ended reel at
-      by true p y q z r e = absurd (let w : _≡_ {A = ℕ} 0 1 = cc in omega arith)
+      by : (x : Bool) → ltb (length reel) at ≡ x → (y : Bool) → eqb (length reel) at ≡ y → (z : Bool) → leb b (length reel - (at + 1)) ≡ z
+          → picked x y z ≡ End → Ended reel at
+      by true p y q z r e = absurd (apart (cc))
       by false p true q z r e =
           let here : length reel ≡ at = eqb-true (length reel) at q in record { here = here; made = from-end reel at here }
-      by false p false q false r e = absurd (let w : _≡_ {A = ℕ} 0 1 = cc in omega arith)
-      by false p false q true r e = absurd (let w : _≡_ {A = ℕ} 0 1 = cc in omega arith)
+      by false p false q false r e = absurd (apart (cc))
+      by false p false q true r e = absurd (apart (cc))
 
   pub step-refused : at ≤ length reel → (why : Refusal) → stepAt reel at ≡ Refused why → Cut reel at why
   unfolding stepAt
   step-refused h why e = by (ltb (length reel) at) refl (eqb (length reel) at) refl (leb b (length reel - (at + 1))) refl e
     where
-      by : (x : Bool) → ltb (length reel) at ≡ x → (y : Bool) → eqb (length reel) at ≡ y → (z : Bool) → leb b (length reel - (at + 1)) ≡ z → picked x y z ≡ Refused why → Cut reel at why
+      by : (x : Bool) → ltb (length reel) at ≡ x → (y : Bool) → eqb (length reel) at ≡ y → (z : Bool) → leb b (length reel - (at + 1)) ≡ z
+          → picked x y z ≡ Refused why → Cut reel at why
       by true p y q z r e = absurd (let past : length reel < at = ltb-true (length reel) at p in omega arith)
-      by false p true q z r e = absurd (let w : _≡_ {A = ℕ} 0 1 = cc in omega arith)
+      by false p true q z r e = absurd (apart (cc))
       by false p false q false r e =
           let inside : at < length reel = omega (arith, eqb-false (length reel) at q) in
           record { cut = cc; inside = inside; made = from-cut reel at inside (leb-false b (length reel - (at + 1)) r) }
-      by false p false q true r e = absurd (let w : _≡_ {A = ℕ} 0 1 = cc in omega arith)
+      by false p false q true r e = absurd (apart (cc))

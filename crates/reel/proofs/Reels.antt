@@ -72,7 +72,9 @@ again zero s = refl
 again (suc n) [] = refl
 again (suc n) (b ∷ s) = by (leb b (length s)) refl (again n (drop b s))
   where
-    by : (t : Bool) → leb b (length s) ≡ t → reelOf (unreelBy n (drop b s) .frames) ++ unreelBy n (drop b s) .rest ≡ drop b s → reelOf (cond t (preceded (take b s) (unreelBy n (drop b s))) (record { frames = []; rest = b ∷ s }) .frames) ++ cond t (preceded (take b s) (unreelBy n (drop b s))) (record { frames = []; rest = b ∷ s }) .rest ≡ b ∷ s
+    by : (t : Bool) → leb b (length s) ≡ t → reelOf (unreelBy n (drop b s) .frames) ++ unreelBy n (drop b s) .rest ≡ drop b s
+        → reelOf (cond t (preceded (take b s) (unreelBy n (drop b s))) (record { frames = []; rest = b ∷ s }) .frames) ++ cond t
+        (preceded (take b s) (unreelBy n (drop b s))) (record { frames = []; rest = b ∷ s }) .rest ≡ b ∷ s
     by true e ih =
         rw (append-assoc, ih, take-append-drop b s)
         (ap (λ (k : ℕ). k ∷ s) (length-take-le b s (leb-true b (length s) e)))
@@ -93,7 +95,8 @@ rest-by (suc n) (b ∷ s) h = by (leb b (length s)) refl (rest-by n (drop b s) (
     made : Bool → Unreeled
     made t = cond t (preceded (take b s) (unreelBy n (drop b s))) (record { frames = []; rest = b ∷ s })
 
-    by : (t : Bool) → leb b (length s) ≡ t → unreel (unreelBy n (drop b s) .rest) ≡ record { frames = []; rest = unreelBy n (drop b s) .rest } → unreel (made t .rest) ≡ record { frames = []; rest = made t .rest }
+    by : (t : Bool) → leb b (length s) ≡ t → unreel (unreelBy n (drop b s) .rest) ≡ record { frames = []; rest = unreelBy n (drop b s) .rest }
+        → unreel (made t .rest) ≡ record { frames = []; rest = made t .rest }
     by true e ih = ih
     by false e ih = unreel-cut b s (leb-false b (length s) e)
 

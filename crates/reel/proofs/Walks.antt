@@ -33,7 +33,8 @@ module _ (reel : List ℕ) (at : ℕ) where
     left : length (drop (at + 1) reel) ≡ length reel - (at + 1)
     left = length-drop (at + 1) reel
 
-    pub from-frame : (b : ℕ) → b ≡ getD reel at 0 → b ≤ length reel - (at + 1) → unreel (drop at reel) ≡ preceded (take b (drop (at + 1) reel)) (unreel (drop (at + 1 + b) reel))
+    pub from-frame : (b : ℕ) → b ≡ getD reel at 0 → b ≤ length reel - (at + 1)
+        → unreel (drop at reel) ≡ preceded (take b (drop (at + 1) reel)) (unreel (drop (at + 1 + b) reel))
     from-frame b e h =
         ap unreel (from-here ∙ ap (λ (x : ℕ). x ∷ drop (at + 1) reel) (sym e))
         ∙ unreel-frame b (drop (at + 1) reel) (rw left h)
@@ -51,7 +52,8 @@ module _ (reel : List ℕ) (at : ℕ) (go : ℕ → Walked) where
     turn-cut : length reel - (at + 1) < b → onward reel go (stepAt reel at) ≡ walked (unreel (drop at reel))
     turn-cut h = rw (step-cut reel at inside b e h, from-cut reel at inside (omega arith)) refl
 
-    turn-frame : b ≤ length reel - (at + 1) → go (at + 1 + b) ≡ walked (unreel (drop (at + 1 + b) reel)) → onward reel go (stepAt reel at) ≡ walked (unreel (drop at reel))
+    turn-frame : b ≤ length reel - (at + 1) → go (at + 1 + b) ≡ walked (unreel (drop (at + 1 + b) reel))
+        → onward reel go (stepAt reel at) ≡ walked (unreel (drop at reel))
     turn-frame h next =
         let long : at + 1 + b - (at + 1) ≡ b = omega arith in
         rw (step-frame reel at inside b e h, from-frame reel at inside b e h, next)
@@ -63,7 +65,9 @@ walk-unreel zero reel at h k = rw (from-end reel at (omega arith)) (ap (λ (x : 
 walk-unreel (suc n) reel at h k =
     by (ltb at (length reel)) refl (leb (getD reel at 0) (length reel - (at + 1))) refl (λ p. walk-unreel n reel p)
   where
-    by : (t : Bool) → ltb at (length reel) ≡ t → (u : Bool) → leb (getD reel at 0) (length reel - (at + 1)) ≡ u → ((p : ℕ) → p ≤ length reel → length reel - p ≤ n → walk n reel p ≡ walked (unreel (drop p reel))) → onward reel (λ p. walk n reel p) (stepAt reel at) ≡ walked (unreel (drop at reel))
+    by : (t : Bool) → ltb at (length reel) ≡ t → (u : Bool) → leb (getD reel at 0) (length reel - (at + 1)) ≡ u
+        → ((p : ℕ) → p ≤ length reel → length reel - p ≤ n → walk n reel p ≡ walked (unreel (drop p reel)))
+        → onward reel (λ p. walk n reel p) (stepAt reel at) ≡ walked (unreel (drop at reel))
     by false e u f ih = let past : length reel ≤ at = ltb-false at (length reel) e in turn-end reel at (λ p. walk n reel p) (omega arith)
     by true e false f ih =
         turn-cut reel at (λ p. walk n reel p) (ltb-true at (length reel) e) (getD reel at 0) refl (leb-false (getD reel at 0) (length reel - (at + 1)) f)
@@ -76,6 +80,7 @@ walk-unreel (suc n) reel at h k =
 pub walk-whole : (fs : List (List ℕ)) → walk (length (reelOf fs)) (reelOf fs) 0 ≡ record { found = fs; last = End }
 walk-whole fs = walk-unreel (length (reelOf fs)) (reelOf fs) 0 (omega arith) (omega arith) ∙ ap walked (reel-whole fs)
 
-pub walk-cut : (fs : List (List ℕ)) (b : ℕ) (s : List ℕ) → length s < b → walk (length (reelOf fs ++ (b ∷ s))) (reelOf fs ++ (b ∷ s)) 0 ≡ record { found = fs; last = lastOf (b ∷ s) }
+pub walk-cut : (fs : List (List ℕ)) (b : ℕ) (s : List ℕ) → length s < b
+    → walk (length (reelOf fs ++ (b ∷ s))) (reelOf fs ++ (b ∷ s)) 0 ≡ record { found = fs; last = lastOf (b ∷ s) }
 walk-cut fs b s h =
     walk-unreel (length (reelOf fs ++ (b ∷ s))) (reelOf fs ++ (b ∷ s)) 0 (omega arith) (omega arith) ∙ ap walked (reel-cut fs b s h)

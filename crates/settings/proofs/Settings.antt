@@ -7,7 +7,7 @@
 use mathlib.Core.Path.{ap, refl, sym, _∙_, _≡_}
 use mathlib.Core.Bool.{Bool, cond, false, false≢true, not, true, _&&_}
 use mathlib.Core.List.{List, [], _∷_}
-use Prim.Native.Nat.{suc, zero, ℕ, _%_, _+_, _-_, _/_, _<_, _≤_}
+use Prim.Native.Nat.{suc, zero, ℕ, _+_, _-_, _<_, _≤_}
 use native.Mathlib.Omega.{arith}
 use borrow.Author.Tests.{eqb-true, le-leb, leb-true, lt-leb, lt-ltb, ltb-false, ltb-true}
 use lib.Dec.{eqb, leb, ltb}
@@ -209,7 +209,8 @@ setting-kinds k = go (ltb 0 k) refl (leb k kinds) refl
         alike-same _ _ (every-at (λ i r. alike (ltb (table.slotOf r) settings) (not (isIn (suc i) actions))) [] rows 0 listed (k - 1) (omega arith))
         ∙ ap (λ (i : ℕ). not (isIn i actions)) n
 
-    go : (x : Bool) → ltb 0 k ≡ x → (y : Bool) → leb k kinds ≡ y → ltb (cond (x && y) (table.slotOf (rowOf k)) action) settings ≡ (x && y) && not (isIn k actions)
+    go : (x : Bool) → ltb 0 k ≡ x → (y : Bool) → leb k kinds ≡ y → ltb (cond (x && y) (table.slotOf (rowOf k)) action) settings ≡ (x && y) && not
+        (isIn k actions)
     go true p true q = at (ltb-true 0 k p) (leb-true k kinds q)
     go true p false q = refl
     go false p y q = refl

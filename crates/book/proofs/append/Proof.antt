@@ -15,7 +15,8 @@ put-word-requires-2 : tie.Need-put-word-requires-2
 put-word-requires-2 c κs = (omega (arith, simp length-set at (c .before .before .before .put-word .kept .0)), omega arith)
 
 same-length : tie.Need-same-length
-same-length c = c .before .before .put-word2 .kept .0 ∙ c .before .before .before .before .before .before .put-word .kept .0 ∙ simp length-set (c .before .before .before .before .before .before .before .before .before .before .write .kept .0)
+same-length c = c .before .before .put-word2 .kept .0 ∙ c .before .before .before .before .before .before .put-word .kept .0
+    ∙ simp length-set (c .before .before .before .before .before .before .before .before .before .before .write .kept .0)
 
 returns : tie.Need-returns
 unfolding appended

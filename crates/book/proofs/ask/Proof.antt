@@ -21,10 +21,16 @@ bytes : (c : tie.After-slot-for) → Bytes (now (c .before .before .before .befo
 bytes c = λ i. c .before .before .before .before .before .shared-slice-known .given i .fits
 
 -- a frame that is held lies within the bytes
-inside : (c : tie.Else2) → c .before .offset .result + sizeOf (c .before .before .before .slot-for .result) ≤ length (now (c .before .before .before .before .before .before .before .before .before .args .book))
+inside : (c : tie.Else2) → c .before .offset .result + sizeOf (c .before .before .before .slot-for .result) ≤ length
+    (now (c .before .before .before .before .before .before .before .before .before .args .book))
 inside c =
     let e1 = c .before .before .before in
-    omega (arith, held-within ours _ (bytes e1) (known e1) _ _ (omega arith) (c .before .offset .ensures .0) (c .if2 .left), holds-reads ours _ (known e1) .high)
+    omega (
+      arith,
+      held-within ours _ (bytes e1) (known e1) _ _ (omega arith) (c .before .offset .ensures .0) (c .if2 .left),
+      holds-reads ours _
+          (known e1) .high,
+    )
 
 returns : tie.Need-returns
 returns c = tells ours _ _ _ _ _ _ (turned-away ours _ _ _ _ _ (c .before .before .ready .ensures) (c .enum-told2 .given .1))
@@ -32,7 +38,8 @@ returns c = tells ours _ _ _ _ _ _ (turned-away ours _ _ _ _ _ (c .before .befor
 returns-2 : tie.Need-returns-2
 returns-2 c =
     let s = c .before .before .before in
-    tells ours _ _ _ _ _ _ (ask-absent ours _ (bytes s) (known s) _ _ _ (s .slot-for .ensures) (c .before .before .if1 .taken) (omega arith) _ (c .before .offset .ensures .0) (c .if2 .taken))
+    tells ours _ _ _ _ _ _ (ask-absent ours _ (bytes s) (known s) _ _ _ (s .slot-for .ensures) (c .before .before .if1 .taken) (omega arith) _
+    (c .before .offset .ensures .0) (c .if2 .taken))
 
 part-write-end : tie.Need-part-write-end
 part-write-end c = omega (arith, inside (c .before .before .before), c .before .before .size-of .ensures .0)
@@ -55,7 +62,9 @@ returns-3 c =
 returns-4 : tie.Need-returns-4
 returns-4 c =
     let s = c .before .before .before .before .before in
-    tells ours _ _ _ _ _ _ (ask-short ours _ (bytes s) (known s) _ _ _ (s .slot-for .ensures) (c .before .before .before .before .if1 .taken) (omega arith) _ (c .before .before .before .offset .ensures .0) (c .before .before .if2 .left) (inside (c .before .before)) (omega (arith, c .if3 .left, c .before .size-of .ensures .0)))
+    tells ours _ _ _ _ _ _ (ask-short ours _ (bytes s) (known s) _ _ _ (s .slot-for .ensures) (c .before .before .before .before .if1 .taken) (omega arith) _
+    (c .before .before .before .offset .ensures .0) (c .before .before .if2 .left) (inside (c .before .before))
+    (omega (arith, c .if3 .left, c .before .size-of .ensures .0)))
 
 returns-5 : tie.Need-returns-5
 returns-5 c =

@@ -23,7 +23,8 @@ bytes : (c : tie.After-enum-told) → Bytes (now (c .before .before .before .bef
 bytes c = λ i. c .before .before .before .before .before .slice-known .given i .fits
 
 -- past the decoder, the slot is the frame's
-own : (c : tie.After-slot-for) → c .slot-for .result ≡ slotOf (now (c .before .before .before .before .before .before .before .before .before .before .before .args .frame))
+own : (c : tie.After-slot-for) → c .slot-for .result ≡ slotOf
+    (now (c .before .before .before .before .before .before .before .before .before .before .before .args .frame))
 own c = c .slot-for .ensures ∙ slotOf-kind _ _ (c .before .before .before .before .decode .ensures) _ (c .before .before .answer .given .1)
 
 returns : tie.Need-returns
@@ -51,7 +52,8 @@ returns-4 c =
     let a = s .before .before in
     let e = a .before .before .before in
     let k = a .answer .given .1 in
-    let p = permits ours _ _ _ _ _ _ (put-bad ours _ (bytes e) (known e) _ _ (own s) (c .before .if1 .left) _ (lacks-kind _ _ (a .before .before .decode .ensures) _ k)) in
+    let p = permits ours _ _ _ _ _ _ (put-bad ours _ (bytes e) (known e) _ _ (own s) (c .before .if1 .left) _
+    (lacks-kind _ _ (a .before .before .decode .ensures) _ k)) in
     (c .declined2 .ensures ∙ p .0, p .1)
 
 pub put-spec : {M : Type 1} → statement M

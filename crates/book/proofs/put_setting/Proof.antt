@@ -5,7 +5,7 @@ use Rattle.contents.proofs.Judged.{Bytes}
 use Rattle.book.specs.Book.{ours}
 use Rattle.book.proofs.Known.{count-few}
 use Rattle.book.proofs.Known.{count-few}
-use Rattle.book.proofs.Putting.{put-app, put-full, put-over, put-room}
+use Rattle.book.proofs.Putting.{put-app, put-full, put-over}
 use Rattle.book.proofs.Calls.{Holds, holds-reads, opened-holds, permits}
 use Rattle.book.proofs.put_setting.Statement.{statement}
 use Rattle.book.proofs.put_setting.Tie as tie
@@ -24,7 +24,8 @@ returns c =
     let s = w .before .before .before in
     let p = s .before .pre in
     permits ours _ _ _ _ _ _
-    (put-over ours _ (bytes s) (known (s .before)) _ _ (p .1) (p .2) (omega arith) _ (w .offset .ensures .0) _ (i .if1 .taken) (c .before .before .write .ensures))
+    (put-over ours _ (bytes s) (known (s .before)) _ _ (p .1) (p .2) (omega arith) _ (w .offset .ensures .0) _ (i .if1 .taken)
+    (c .before .before .write .ensures))
 
 sub-if2 : tie.Need-sub-if2
 sub-if2 c =

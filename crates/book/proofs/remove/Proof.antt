@@ -50,14 +50,16 @@ returns-2 c =
     let s = t .before in
     let b = now (s .before .before .before .before .before .before .args .book) in
     permits ours _ _ _ _ _ _
-    (remove-done ours _ (bytes s) (known s) _ _ (s .slot-for .ensures) (t .if1 .taken) (omega arith) _ (o .offset .ensures .0) (i .if2 .taken) _ _ (w .word .ensures .0)
+    (remove-done ours _ (bytes s) (known s) _ _ (s .slot-for .ensures) (t .if1 .taken) (omega arith) _ (o .offset .ensures .0) (i .if2 .taken) _ _
+    (w .word .ensures .0)
     (c .before .before .take-out .ensures
     ∙ ap (λ (x : ℕ). takenOut (ours .slots) b (o .offset .result) x (w .word .result)) (c .before .before .before .before .size-of .ensures .0)))
 
 returns-3 : tie.Need-returns-3
 returns-3 c =
     let s = c .before .before .before .before in
-    permits ours _ _ _ _ _ _ (remove-absent ours _ (bytes s) (known s) _ _ (s .slot-for .ensures) (c .before .before .before .if1 .taken) (omega arith) _ (c .before .offset .ensures .0) (c .if2 .left))
+    permits ours _ _ _ _ _ _ (remove-absent ours _ (bytes s) (known s) _ _ (s .slot-for .ensures) (c .before .before .before .if1 .taken) (omega arith) _
+    (c .before .offset .ensures .0) (c .if2 .left))
 
 returns-4 : tie.Need-returns-4
 returns-4 c =

@@ -34,17 +34,29 @@ sub-total c =
 write-reel-requires : tie.Need-write-reel-requires
 write-reel-requires c κs =
     let s = c .before .before .before .before .before in
-    let r = holds-reads ours _ (known s) in (omega (arith, r .low), omega (arith, r .high), omega arith, record { frames = known s .frames; reads = ap₂ (λ (n e : ℕ). framesFrom (ours .slots) n (now (s .before .before .before .before .before .args .book)) (start (ours .slots)) e) (c .before .before .byte-to-usize .ensures .0) (c .before .before .before .before .word .ensures .0) ∙ r .tiled })
+    let r = holds-reads ours _ (known s) in (
+      omega (arith, r .low),
+      omega (arith, r .high),
+      omega arith,
+      record {
+        frames = known s .frames;
+        reads = ap₂ (λ (n e : ℕ). framesFrom (ours .slots) n (now (s .before .before .before .before .before .args .book))
+            (start (ours .slots)) e) (c .before .before .byte-to-usize .ensures .0) (c .before .before .before .before .word .ensures .0) ∙ r .tiled;
+      },
+    )
 
 returns-2 : tie.Need-returns-2
 returns-2 c =
     let s = c .before .before .before .before .before .before .before .before in
-    tells ours _ _ _ _ _ _ (replay-done ours _ (bytes s) (known s) _ _ _ (c .before .before .before .before .before .byte-to-usize .ensures .0) (c .before .before .before .before .before .before .before .word .ensures .0) _ (c .before .before .before .before .if1 .taken) (c .before .before .write-reel .ensures))
+    tells ours _ _ _ _ _ _ (replay-done ours _ (bytes s) (known s) _ _ _ (c .before .before .before .before .before .byte-to-usize .ensures .0)
+    (c .before .before .before .before .before .before .before .word .ensures .0) _ (c .before .before .before .before .if1 .taken)
+    (c .before .before .write-reel .ensures))
 
 returns-3 : tie.Need-returns-3
 returns-3 c =
     let s = c .before .before .before .before in
-    tells ours _ _ _ _ _ _ (replay-short ours _ (bytes s) (known s) _ _ _ (c .before .byte-to-usize .ensures .0) (c .before .before .before .word .ensures .0) (c .if1 .left))
+    tells ours _ _ _ _ _ _ (replay-short ours _ (bytes s) (known s) _ _ _ (c .before .byte-to-usize .ensures .0) (c .before .before .before .word .ensures .0)
+    (c .if1 .left))
 
 pub replay-spec : {M : Type 1} → statement M
 replay-spec =

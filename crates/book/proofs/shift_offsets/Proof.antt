@@ -1,14 +1,14 @@
-use mathlib.Core.Path.{ap, refl, subst, sym, _∙_, _≡_}
+use mathlib.Core.Path.{ap, refl, sym, _∙_, _≡_}
 use mathlib.Core.List.{List}
-use Prim.Native.Nat.{ℕ, _*_, _+_, _-_, _<_, _≤_}
+use Prim.Native.Nat.{ℕ, _-_, _<_, _≤_}
 use native.Mathlib.Nat.{le-refl}
 use native.Mathlib.Omega.{arith}
 use borrow.Author.Needs.{needs}
 use lib.ListN.{length}
 use Rattle.contents.specs.Contents.{longest, offsetAt}
-use Rattle.contents.proofs.Steps.{less-zero}
+use Rattle.contents.proofs.Loops.{less-zero}
 use Rattle.book.proofs.Parts.{offset-others, remap-end, remap-step}
-use Rattle.book.specs.Edits.{Low, remap, setWord, shiftedAt}
+use Rattle.book.specs.Edits.{remap, shiftedAt}
 use Rattle.book.proofs.shift_offsets.Statement.{statement}
 use Rattle.book.proofs.shift_offsets.Tie as tie
 
@@ -26,8 +26,16 @@ loop-holds c = (omega arith, refl, rw (← less-zero), λ j x y. c .before .pre 
 
 shifted-requires : tie.Need-shifted-requires Inv-loop μ-loop
 shifted-requires c κs =
-    let L = c .before .before .before .before in
-    (omega arith, omega (arith, c .before .offset .ensures .0, L .loop .inv .3 (L .loop .s) (le-refl (L .loop .s)) (c .before .before .before .loop-test .taken)), omega arith)
+    let L = c .before .before .before .before in (
+      omega arith,
+      omega (
+        arith,
+        c .before .offset .ensures .0,
+        L .loop .inv .3 (L .loop .s) (le-refl (L .loop .s))
+            (c .before .before .before .loop-test .taken),
+      ),
+      omega arith,
+    )
 
 loop-again : tie.Need-loop-again Inv-loop μ-loop
 loop-again c =
@@ -35,9 +43,11 @@ loop-again c =
     let a = c .before .before .before .before .before .before .before .before .before .before .args in (
       omega arith,
       c .before .before .put-word .kept .0 ∙ at .loop .inv .1,
-      cc (remap-step (a .slots) (shiftedAt (a .at) (a .old) (a .new)) (at .loop .b) (at .loop .s) (c .before .before .before .before .before .before .before .loop-test .taken)),
+      cc (remap-step (a .slots) (shiftedAt (a .at) (a .old) (a .new)) (at .loop .b) (at .loop .s)
+          (c .before .before .before .before .before .before .before .loop-test .taken)),
       λ j x y.
-          let e : offsetAt (c .before .before .put-word .last .0) j ≡ offsetAt (at .loop .b) j = ap (λ (l : List ℕ). offsetAt l j) (c .before .before .put-word .ensures) ∙ offset-others _ _ _ _ (omega arith) in
+          let e : offsetAt (c .before .before .put-word .last .0) j ≡ offsetAt (at .loop .b) j = ap (λ (l : List ℕ). offsetAt l j)
+          (c .before .before .put-word .ensures) ∙ offset-others _ _ _ _ (omega arith) in
           omega (arith, e, at .loop .inv .3 j (omega arith) y),
     )
 

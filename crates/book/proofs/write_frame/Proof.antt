@@ -12,7 +12,8 @@ same-length : tie.Need-same-length
 same-length c = c .before .before .write .kept .0 ∙ simp length-set
 
 returns : tie.Need-returns
-returns c = let a = c .before .before .before .before .before .before .before .args in c .before .before .write .ensures ∙ part-put (now (a .b)) (a .p) (a .n) (set (now (a .out)) (a .w) (a .n)) (a .w + 1) (omega arith) (simp length-set (omega arith))
+returns c = let a = c .before .before .before .before .before .before .before .args in c .before .before .write .ensures
+    ∙ part-put (now (a .b)) (a .p) (a .n) (set (now (a .out)) (a .w) (a .n)) (a .w + 1) (omega arith) (simp length-set (omega arith))
 
 pub write-frame-spec : {M : Type 1} → statement M
 write-frame-spec =

@@ -7,14 +7,15 @@ use lib.ListN.{length}
 use denote.Ref.{now}
 use Rattle.settings.specs.Settings.{sizeOf}
 use Rattle.contents.specs.Contents.{start}
-use Rattle.contents.proofs.Steps.{less-zero}
+use Rattle.contents.proofs.Loops.{less-zero}
 use Rattle.book.specs.Edits.{Tiles, reelFrom}
 use Rattle.book.proofs.Telling.{reelFrom-end, reelFrom-step, tiles-step}
 use Rattle.book.proofs.write_reel.Statement.{statement}
 use Rattle.book.proofs.write_reel.Tie as tie
 
 abbrev Inv-loop : tie.InvT-loop
-Inv-loop b m c e out₀ p₀ w₀ i₀ out p w i = (i ≤ c) × (p ≤ e) × (length out ≡ length out₀) × (w + (e - p) + (c - i) ≤ length out₀) × (reelFrom m c b (start m) e 0 out₀ ≡ reelFrom m (c - i) b p e w out) × Tiles m (c - i) b p e
+Inv-loop b m c e out₀ p₀ w₀ i₀ out p w i = (i ≤ c) × (p ≤ e) × (length out ≡ length out₀) × (w + (e - p) + (c - i) ≤ length out₀) × (reelFrom m c b (start m)
+    e 0 out₀ ≡ reelFrom m (c - i) b p e w out) × Tiles m (c - i) b p e
 
 abbrev μ-loop : tie.MeasureT-loop
 μ-loop b m c e out₀ p₀ w₀ i₀ out p w i = c - i
@@ -22,8 +23,15 @@ abbrev μ-loop : tie.MeasureT-loop
 loop-holds : tie.Need-loop-holds Inv-loop μ-loop
 loop-holds c =
     let s = c .before .before in
-    let e : s .args .c ≡ s .args .c - 0 = omega arith in
-    (omega arith, omega arith, refl, omega arith, rw (← less-zero), subst (λ (k : ℕ). Tiles (s .args .slots) k (s .args .b .now) (start (s .args .slots)) (s .args .e)) e (s .pre .3))
+    let e : s .args .c ≡ s .args .c - 0 = omega arith in (
+      omega arith,
+      omega arith,
+      refl,
+      omega arith,
+      rw (← less-zero),
+      subst
+          (λ (k : ℕ). Tiles (s .args .slots) k (s .args .b .now) (start (s .args .slots)) (s .args .e)) e (s .pre .3),
+    )
 
 write-frame-requires : tie.Need-write-frame-requires Inv-loop μ-loop
 write-frame-requires c κs =

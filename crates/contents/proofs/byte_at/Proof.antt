@@ -2,7 +2,7 @@ use mathlib.Core.Path.{sym}
 use native.Mathlib.Omega.{arith}
 use borrow.Author.Needs.{needs}
 use denote.Ref.{now}
-use Rattle.contents.proofs.Steps.{getD-past}
+use Rattle.contents.proofs.Loops.{getD-past}
 use Rattle.contents.proofs.byte_at.Statement.{statement}
 use Rattle.contents.proofs.byte_at.Tie as tie
 

@@ -4,7 +4,7 @@ use native.Mathlib.Omega.{arith}
 use borrow.Author.Needs.{needs}
 use denote.Ref.{now}
 use Rattle.contents.specs.Contents.{framesFrom, layout, start, verdictOf}
-use Rattle.contents.proofs.Steps.{judge-all, judge-count, judge-high, judge-long, judge-low, judge-many, judge-short, judge-tail, judge-version}
+use Rattle.contents.proofs.Loops.{judge-all, judge-count, judge-high, judge-long, judge-low, judge-many, judge-short, judge-tail, judge-version}
 use Rattle.contents.proofs.check.Statement.{statement}
 use Rattle.contents.proofs.check.Tie as tie
 
@@ -41,20 +41,23 @@ returns-6 c =
 returns-7 : tie.Need-returns-7
 returns-7 c =
     let a = c .before .before .before .before .before .before .before .before .before .before .before .before .before .args in
-    ap verdictOf (sym (judge-count (layout (a .version) (a .slots)) (now (a .b)) (omega arith) (omega arith) (omega arith) (omega arith) (omega arith) (λ x. c .if7 .taken (c .before .present .ensures ∙ x ∙ sym (c .before .before .byte-to-usize .ensures .0)))))
+    ap verdictOf (sym (judge-count (layout (a .version) (a .slots)) (now (a .b)) (omega arith) (omega arith) (omega arith) (omega arith) (omega arith)
+    (λ x. c .if7 .taken (c .before .present .ensures ∙ x ∙ sym (c .before .before .byte-to-usize .ensures .0)))))
 
 returns-8 : tie.Need-returns-8
 returns-8 c =
     let a = c .before .before .before .before .before .before .before .before .before .before .before .before .before .before .before .before .args in
     let b = now (a .b) in
     c .tiles .ensures
-    ∙ ap₂ (λ (n e : ℕ). verdictOf (framesFrom (a .slots) n b (start (a .slots)) e)) (c .before .before .before .before .before .byte-to-usize .ensures .0) (c .before .before .before .before .before .before .before .before .before .word .ensures .0)
+    ∙ ap₂ (λ (n e : ℕ). verdictOf (framesFrom (a .slots) n b (start (a .slots)) e)) (c .before .before .before .before .before .byte-to-usize .ensures .0)
+    (c .before .before .before .before .before .before .before .before .before .word .ensures .0)
     ∙ ap verdictOf (sym (judge-all (layout (a .version) (a .slots)) b (omega arith) (omega arith) (omega arith) (omega arith) (omega arith) (omega arith) (cc)))
 
 returns-9 : tie.Need-returns-9
 returns-9 c =
     let a = c .before .before .before .before .before .before .before .before .before .before .before .before .before .before .before .args in
-    ap verdictOf (sym (judge-tail (layout (a .version) (a .slots)) (now (a .b)) (omega arith) (omega arith) (omega arith) (omega arith) (omega arith) (omega arith) (cc)))
+    ap verdictOf (sym (judge-tail (layout (a .version) (a .slots)) (now (a .b)) (omega arith) (omega arith) (omega arith) (omega arith) (omega arith)
+    (omega arith) (cc)))
 
 pub check-spec : {M : Type 1} → statement M
 check-spec =

@@ -1,20 +1,28 @@
 use native.Mathlib.Omega.{arith}
 use borrow.Author.Needs.{needs}
-use Rattle.contents.proofs.Steps.{len-long, len-other, len-yes, lengthAt-none}
+use Rattle.contents.proofs.Loops.{len-long, len-other, len-yes, lengthAt-none}
 use Rattle.contents.proofs.len_at.Statement.{statement}
 use Rattle.contents.proofs.len_at.Tie as tie
 
 returns : tie.Need-returns
 returns c =
     let at = c .before .before .before .before .before .before in
-    let z = c .before .before .before .before .size-of in
-    (len-yes _ _ _ _ _ (at .slot-from .ensures .0) (omega arith) _ (z .ensures .0) _ (omega arith) (omega arith) (c .before .slot-of .ensures) (c .if3 .taken), omega arith, omega arith)
+    let z = c .before .before .before .before .size-of in (
+      len-yes _ _ _ _ _ (at .slot-from .ensures .0) (omega arith) _ (z .ensures .0) _ (omega arith) (omega arith) (c .before .slot-of .ensures)
+          (c .if3 .taken),
+      omega arith,
+      omega arith,
+    )
 
 returns-2 : tie.Need-returns-2
 returns-2 c =
     let at = c .before .before .before .before .before .before in
-    let z = c .before .before .before .before .size-of in
-    (len-other _ _ _ _ _ (at .slot-from .ensures .0) (omega arith) _ (z .ensures .0) _ (omega arith) (omega arith) (c .before .slot-of .ensures) (c .if3 .left), omega arith, omega arith)
+    let z = c .before .before .before .before .size-of in (
+      len-other _ _ _ _ _ (at .slot-from .ensures .0) (omega arith) _ (z .ensures .0) _ (omega arith) (omega arith) (c .before .slot-of .ensures)
+          (c .if3 .left),
+      omega arith,
+      omega arith,
+    )
 
 returns-3 : tie.Need-returns-3
 returns-3 c =

@@ -3,7 +3,7 @@ use native.Mathlib.Omega.{arith}
 use borrow.Author.Needs.{needs}
 use denote.Ref.{now}
 use Rattle.contents.specs.Contents.{offsetAt}
-use Rattle.contents.proofs.Steps.{offset-past}
+use Rattle.contents.proofs.Loops.{offset-past}
 use Rattle.contents.proofs.offset.Statement.{statement}
 use Rattle.contents.proofs.offset.Tie as tie
 

@@ -2,7 +2,7 @@ use mathlib.Core.Path.{sym, _∙_}
 use native.Mathlib.Omega.{arith}
 use borrow.Author.Needs.{needs}
 use denote.Ref.{now}
-use Rattle.contents.proofs.Steps.{slot-fits, slot-short}
+use Rattle.contents.proofs.Loops.{slot-fits, slot-short}
 use Rattle.contents.proofs.slot_at.Statement.{statement}
 use Rattle.contents.proofs.slot_at.Tie as tie
 

@@ -3,7 +3,7 @@ use Prim.Native.Nat.{ℕ, _-_, _≤_}
 use native.Mathlib.Omega.{arith}
 use borrow.Author.Needs.{needs}
 use Rattle.contents.specs.Contents.{slotFrom}
-use Rattle.contents.proofs.Steps.{less-zero, slotFrom-end, slotFrom-found, slotFrom-pass}
+use Rattle.contents.proofs.Loops.{less-zero, slotFrom-end, slotFrom-found, slotFrom-pass}
 use Rattle.contents.proofs.slot_from.Statement.{statement}
 use Rattle.contents.proofs.slot_from.Tie as tie
 
@@ -18,8 +18,11 @@ loop-holds c = (omega arith, ap (λ (x : ℕ). slotFrom x (c .before .args .b .n
 
 returns : tie.Need-returns Inv-loop μ-loop
 returns c =
-    let at = c .before .before .before in
-    (sym (at .loop .inv .1 ∙ slotFrom-found _ _ _ _ (c .before .before .loop-test .taken) (sym (c .before .offset-in .ensures .0) ∙ c .if1 .taken)), omega arith)
+    let at = c .before .before .before in (
+      sym (at .loop .inv .1 ∙ slotFrom-found _ _ _ _ (c .before .before .loop-test .taken) (sym (c .before .offset-in .ensures .0) ∙ c .if1 .taken)),
+      omega
+          arith,
+    )
 
 loop-again : tie.Need-loop-again Inv-loop μ-loop
 loop-again c =

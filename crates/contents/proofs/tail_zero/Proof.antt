@@ -4,7 +4,7 @@ use native.Mathlib.Omega.{arith}
 use borrow.Author.Needs.{needs}
 use lib.ListN.{drop, length}
 use Rattle.contents.specs.Contents.{allZero}
-use Rattle.contents.proofs.Steps.{allZero-end, allZero-pass, allZero-stop}
+use Rattle.contents.proofs.Loops.{allZero-end, allZero-pass, allZero-stop}
 use Rattle.contents.proofs.tail_zero.Statement.{statement}
 use Rattle.contents.proofs.tail_zero.Tie as tie
 

@@ -4,7 +4,7 @@ use native.Mathlib.Omega.{arith}
 use borrow.Author.Needs.{needs}
 use borrow.Author.Tests.{eq-eqb, ne-eqb}
 use Rattle.contents.specs.Contents.{framesFrom, start, verdictOf}
-use Rattle.contents.proofs.Steps.{framesFrom-end, framesFrom-pass, framesFrom-stop, less-zero}
+use Rattle.contents.proofs.Loops.{framesFrom-end, framesFrom-pass, framesFrom-stop, less-zero}
 use Rattle.contents.proofs.tiles.Statement.{statement}
 use Rattle.contents.proofs.tiles.Tie as tie
 

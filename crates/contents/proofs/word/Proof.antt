@@ -3,7 +3,7 @@ use native.Mathlib.Omega.{arith}
 use borrow.Author.Needs.{needs}
 use denote.Ref.{now}
 use Rattle.contents.specs.Contents.{wordAt}
-use Rattle.contents.proofs.Steps.{word-past}
+use Rattle.contents.proofs.Loops.{word-past}
 use Rattle.contents.proofs.word.Statement.{statement}
 use Rattle.contents.proofs.word.Tie as tie
 

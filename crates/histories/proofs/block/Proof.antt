@@ -8,7 +8,9 @@ use Rattle.histories.proofs.block.Statement.{statement}
 use Rattle.histories.proofs.block.Tie as tie
 
 abbrev Inv-loop : tie.InvT-loop
-Inv-loop len s book₀ lent₀ out₀ have₀ at₀ w₀ size₀ book lent out have at w size = (have ≤ length book) × (at + size ≤ length s) × (w ≤ length out) × (length book ≡ length book₀) × (length lent ≡ length lent₀) × (length out ≡ length out₀)
+Inv-loop len s book₀ lent₀ out₀ have₀ at₀ w₀ size₀ book lent out have at w
+    size = (have ≤ length book) × (at + size ≤ length s) × (w ≤ length out) × (length book ≡ length book₀) × (length lent ≡ length lent₀) × (length
+    out ≡ length out₀)
 
 abbrev μ-loop : tie.MeasureT-loop
 μ-loop len s book₀ lent₀ out₀ have₀ at₀ w₀ size₀ book lent out have at w size = length s - at

@@ -8,7 +8,8 @@ use Rattle.histories.proofs.run.Statement.{statement}
 use Rattle.histories.proofs.run.Tie as tie
 
 abbrev Inv-loop : tie.InvT-loop
-Inv-loop s₀ book₀ lent₀ out₀ len₀ more₀ turns₀ s book lent out len more turns = (len ≤ length book) × (length book ≡ length book₀) × (length lent ≡ length lent₀) × (length out ≡ length out₀) × (length s ≡ length s₀)
+Inv-loop s₀ book₀ lent₀ out₀ len₀ more₀ turns₀ s book lent out len more
+    turns = (len ≤ length book) × (length book ≡ length book₀) × (length lent ≡ length lent₀) × (length out ≡ length out₀) × (length s ≡ length s₀)
 
 abbrev μ-loop : tie.MeasureT-loop
 μ-loop s₀ book₀ lent₀ out₀ len₀ more₀ turns₀ s book lent out len more turns = turns

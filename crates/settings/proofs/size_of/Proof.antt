@@ -2,6 +2,7 @@ use mathlib.Core.Path.{ap, sym, _≡_}
 use Prim.Native.Nat.{ℕ}
 use native.Mathlib.Omega.{arith}
 use borrow.Author.Needs.{needs}
+use Rattle.table.specs.Table.{settings}
 use Rattle.settings.specs.Settings.{lengths, sizeOf}
 use Rattle.settings.proofs.Settings.{past, size-none}
 use Rattle.settings.proofs.size_of.Statement.{statement}
@@ -12,7 +13,7 @@ is : {i k : ℕ} → i ≡ k → sizeOf k ≡ sizeOf i
 is e = sym (ap sizeOf e)
 
 last : tie.Need-returns-30
-last c = (sym (size-none (c .before .args .slot) (past 29 _ (c .match .rest))), omega arith)
+last c = (sym (size-none (c .before .args .slot) (past settings _ (c .match .rest))), omega arith)
 
 pub size-of-spec : {M : Type 1} → statement M
 unfolding sizeOf lengths

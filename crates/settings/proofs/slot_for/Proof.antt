@@ -1,6 +1,6 @@
 use mathlib.Core.Path.{ap, sym, _≡_}
-use Prim.Native.Nat.{ℕ}
-use borrow.Author.Needs.{needs}
+use Prim.Native.Nat.{suc, ℕ}
+use Rattle.table.specs.Table.{kinds}
 use Rattle.settings.specs.Settings.{slotFor}
 use Rattle.settings.proofs.Settings.{past, slot-past}
 use Rattle.settings.proofs.slot_for.Statement.{statement}
@@ -11,7 +11,7 @@ is : {i k : ℕ} → i ≡ k → slotFor k ≡ slotFor i
 is e = sym (ap slotFor e)
 
 last : tie.Need-returns-41
-last c = slot-past (c .before .args .kind) (past 40 _ (c .match .rest))
+last c = slot-past (c .before .args .kind) (past (suc kinds) _ (c .match .rest))
 
 pub slot-for-spec : {M : Type 1} → statement M
 unfolding slotFor

@@ -14,7 +14,8 @@ use lib.Seq.{drop-cons}
 use Rattle.refusal.specs.declared.Refusal.the-variants.{BufferSize, NotWellFormed}
 use Rattle.contents.specs.declared.Verdict.the-variants.{Refused, WellFormed}
 use Rattle.settings.specs.Settings.{sizeOf, slotOf}
-use Rattle.contents.specs.Contents.{Contents, Layout, allZero, before, framesFrom, holds, judge, lengthAt, longest, offsetAt, presentFrom, refused, slotAt, slotFrom, start, verdictOf, wordAt}
+use Rattle.contents.specs.Contents.{Contents, Layout, allZero, before, framesFrom, holds, judge, lengthAt, longest, offsetAt, presentFrom, refused}
+use Rattle.contents.specs.Contents.{slotAt, slotFrom, start, verdictOf, wordAt}
 
 pub minus-step : (n k : ℕ) → k < n → n - k ≡ suc (n - (k + 1))
 minus-step n k h = omega arith
@@ -37,13 +38,15 @@ pub allZero-step : (b : List ℕ) (i : ℕ) → i < length b
 unfolding allZero
 allZero-step b i h = rw (add-one, drop-cons b i 0)
 
-pub verdict-step : (t : Bool) (f : List ℕ) (r : Contents) → verdictOf (cond t (refused NotWellFormed) (before f r)) ≡ cond t (Refused NotWellFormed) (verdictOf r)
+pub verdict-step : (t : Bool) (f : List ℕ) (r : Contents) → verdictOf (cond t (refused NotWellFormed) (before f r)) ≡ cond t (Refused NotWellFormed)
+    (verdictOf r)
 verdict-step true f r = refl
 verdict-step false f (refused x) = refl
 verdict-step false f (holds fs) = refl
 
 pub framesFrom-step : (m n : ℕ) (b : List ℕ) (p e i : ℕ) → i < n
-    → verdictOf (framesFrom m (n - i) b p e) ≡ cond (eqb (lengthAt m b p e) 0) (Refused NotWellFormed) (verdictOf (framesFrom m (n - (i + 1)) b (p + lengthAt m b p e) e))
+    → verdictOf (framesFrom m (n - i) b p e) ≡ cond (eqb (lengthAt m b p e) 0) (Refused NotWellFormed)
+    (verdictOf (framesFrom m (n - (i + 1)) b (p + lengthAt m b p e) e))
 unfolding framesFrom
 framesFrom-step m n b p e i h =
     ap (λ (x : ℕ). verdictOf (framesFrom m x b p e)) (minus-step n i h)
