@@ -54,6 +54,7 @@ abbrev widest : List ℕ → ℕ
 widest [] = 0
 widest (c ∷ cs) = suc (wideOf c) + widest cs
 
+-- no number that a field holds has more digits
 abbrev held : List ℕ → Bool
 held [] = true
 held (c ∷ cs) = leb (2 ^ narrowOf c .w) (10 ^ wideOf c) && held cs
@@ -62,6 +63,7 @@ held (c ∷ cs) = leb (2 ^ narrowOf c .w) (10 ^ wideOf c) && held cs
 abbrev short : ℕ → List ℕ → Bool
 short kind r = held (numbersOf r) && leb (length (decimal kind) + widest (numbersOf r)) 38
 
+-- the rows of the kinds from this one on
 abbrev allShort : ℕ → List (List ℕ) → Bool
 allShort kind [] = true
 allShort kind (r ∷ rs) = short kind r && allShort (suc kind) rs
@@ -103,6 +105,7 @@ line-length : (index : ℕ) (r : Reading) → length (lineOf index r)
 unfolding lineOf
 line-length index r = simp (length-append, blanked-length) (omega arith)
 
+-- a refusal's number has two digits at the most
 number-short : (why : Refusal) → numberOf why < 100
 number-short ShortFrame = omega arith
 number-short UnknownOpcode = omega arith

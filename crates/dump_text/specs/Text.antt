@@ -51,7 +51,7 @@ textFrom index [] [] = []
 textFrom index [] (b ∷ rest) = lineOf index (refuses ReelCut)
 textFrom index (f ∷ frames) rest = lineOf index (decode f) ++ textFrom (suc index) frames rest
 
--- the text of a reel from an index on
+-- the text of a reel from an index on: of its whole frames, and of what is left behind them (REFERENCE, "Reel")
 abbrev pub textAt : ℕ → List ℕ → List ℕ
 textAt index reel = textFrom index (unreel reel .frames) (unreel reel .rest)
 
