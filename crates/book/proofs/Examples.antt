@@ -38,7 +38,9 @@ told (Refused x) = refusal (numberOf x)
 abbrev run : ℕ → Outcome
 run n = after ours (Put sync) (made ours (replicate n 0xFF) .bytes)
 
-example : (told (run 62 .answer) ≡ refusal 8) × (told (run 65 .answer) ≡ done 0) × (run
-    65 .bytes ≡ 1 ∷ 1 ∷ 0x00 ∷ 0x41 ∷ 0 ∷ 0 ∷ 0 ∷ 0 ∷ 0 ∷ 0 ∷ 0x00 ∷ 0x3E ∷ (replicate 50 0 ++ sync))
-unfolding sync made call opened judge image header words place flat presentFrom offsetAt wordAt allZero framesFrom putOn placed seat held slotOf slotFor decode judged known stray lacking find takes isIn lists rxBwCodes narrowOf narrowsOf tab tabFrom byteOf maskOf reads part mask read readTo
+example :
+    (told (run 62 .answer) ≡ refusal 8) × (told (run 65 .answer) ≡ done 0)
+    × (run 65 .bytes ≡ 1 ∷ 1 ∷ 0x00 ∷ 0x41 ∷ 0 ∷ 0 ∷ 0 ∷ 0 ∷ 0 ∷ 0 ∷ 0x00 ∷ 0x3E ∷ (replicate 50 0 ++ sync))
+unfolding sync made call opened judge image header words place flat presentFrom offsetAt wordAt allZero framesFrom putOn placed seat held slotOf
+    slotFor decode judged known stray lacking find takes isIn lists rxBwCodes narrowOf narrowsOf tab tabFrom byteOf maskOf reads part mask read readTo
 example = (refl, refl, refl)

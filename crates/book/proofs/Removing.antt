@@ -199,9 +199,11 @@ module _ (H D T : List ℕ) (new z : ℕ) (fits : new ≤ length D + z) where
 module _ (l : Layout) (n k new : ℕ) (fs : List (List ℕ)) (s : Sound fs) (h : held k fs ≡ true) (had : start (l .slots) + length (flat fs) ≤ n)
     (fit : start (l .slots) + length (flat fs) - sizeOf k + new ≤ n) where
   abbrev refitBody : List ℕ
-  refitBody = take (place 0 fs k) (flat fs) ++ (take new (take (sizeOf k)
-      (drop (place 0 fs k) (flat fs)) ++ (drop (place 0 fs k + sizeOf k) (flat fs) ++ replicate (n - (start (l .slots) + length (flat fs))) 0)) ++ (drop
-      (place 0 fs k + sizeOf k) (flat fs) ++ replicate (n - (start (l .slots) + length (flat fs)) + sizeOf k - new) 0))
+  refitBody =
+      take (place 0 fs k) (flat fs)
+      ++ (take new (take (sizeOf k) (drop (place 0 fs k) (flat fs))
+      ++ (drop (place 0 fs k + sizeOf k) (flat fs) ++ replicate (n - (start (l .slots) + length (flat fs))) 0))
+      ++ (drop (place 0 fs k + sizeOf k) (flat fs) ++ replicate (n - (start (l .slots) + length (flat fs)) + sizeOf k - new) 0))
 
   pub refit-image : refitted (l .slots) (image l n fs) (place (start (l .slots)) fs k) (sizeOf k) new (start (l .slots) + length (flat fs))
       ≡ head l (length fs) (start (l .slots) + length (flat fs) - sizeOf k + new)

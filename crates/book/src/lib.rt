@@ -141,7 +141,8 @@ fn refit(b: &mut [u8], slots: usize, at: usize, old: usize, new: usize, e: usize
 
 // The frame of len bytes at `at` goes, and what stands behind it, up to e, closes the gap.
 fn take_out(b: &mut [u8], slots: usize, at: usize, len: usize, e: usize)
-    requires { ⌜ (start slots ≤ at) × (len ≤ at) × (at + len ≤ e) × (e ≤ length (now b)) × (length (now b) ≤ longest) × (0 < getD (now b) 1 0) × Low slots (now b) ⌝ }
+    requires { ⌜ (start slots ≤ at) × (len ≤ at) × (at + len ≤ e) × (e ≤ length (now b)) × (length (now b) ≤ longest) × (0 < getD (now b) 1 0)
+        × Low slots (now b) ⌝ }
     ensures { λ _. ⌜ now (b .exit) ≡ takenOut slots (now (b .entry)) at len e ⌝ }
 {
     let c = byte_to_usize(b[1]);

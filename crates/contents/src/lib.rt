@@ -3,7 +3,8 @@
 ghost use mathlib.Core.Path.{_≡_};
 ghost use Prim.Native.Nat.{_+_, _*_, _<_, _≤_};
 ghost use lib.ListN.{length, getD, drop};
-ghost use Rattle.contents.specs.Contents.{allZero, framesFrom, judge, layout, lengthAt, offsetAt, presentFrom, slotAt, slotFrom, start, verdictOf, wordAt};
+ghost use Rattle.contents.specs.Contents.{allZero, framesFrom, judge, layout, lengthAt, offsetAt};
+ghost use Rattle.contents.specs.Contents.{presentFrom, slotAt, slotFrom, start, verdictOf, wordAt};
 use refusal::Refusal;
 use settings::size_of;
 use settings::slot_of;

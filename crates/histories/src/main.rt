@@ -53,7 +53,8 @@ fn room(out: &[u8], w: usize, need: usize) -> usize
 
 // Answers a record on the first `have` bytes of the book's buffer, behind the w bytes of out that are filled, and tells how many are then.
 fn step(r: &[u8], have: usize, w: usize, book: &mut [u8], lent: &mut [u8], out: &mut [u8]) -> usize
-    requires { ⌜ (12 ≤ length (now r)) × (have ≤ length (now book)) × (w ≤ length (now out)) × (4 + length (now book) + length (now lent) ≤ length (now out)) ⌝ }
+    requires { ⌜ (12 ≤ length (now r)) × (have ≤ length (now book)) × (w ≤ length (now out))
+        × (4 + length (now book) + length (now lent) ≤ length (now out)) ⌝ }
     ensures { λ n. ⌜ n ≤ length (now (out .entry)) ⌝ }
 {
     let o = record::output_len(r, lent.len());
