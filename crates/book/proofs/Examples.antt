@@ -11,7 +11,7 @@ use Rattle.table.specs.Codes.{isIn, lists, rxBwCodes, takes}
 use Rattle.table.specs.Laid.{find}
 use Rattle.table.specs.Number.{narrowOf, narrowsOf}
 use Rattle.refusal.specs.Numbers.{numberOf}
-use Rattle.decoder.specs.Decoding.{decode, judged, known, lacking, stray}
+use Rattle.decoder.specs.Decoding.{answered, decode, judged, known, lacking, sought, stray}
 use Rattle.book.specs.declared.Answer.{Answer}
 use Rattle.book.specs.declared.Answer.the-variants.{Done, Refused}
 use Rattle.settings.specs.Settings.{slotFor, slotOf}
@@ -42,5 +42,6 @@ example :
     (told (run 62 .answer) ≡ refusal 8) × (told (run 65 .answer) ≡ done 0)
     × (run 65 .bytes ≡ 1 ∷ 1 ∷ 0x00 ∷ 0x41 ∷ 0 ∷ 0 ∷ 0 ∷ 0 ∷ 0 ∷ 0 ∷ 0x00 ∷ 0x3E ∷ (replicate 50 0 ++ sync))
 unfolding sync made call opened judge image header words place flat presentFrom offsetAt wordAt allZero framesFrom putOn placed seat held slotOf
-    slotFor decode judged known stray lacking find takes isIn lists rxBwCodes narrowOf narrowsOf tab tabFrom byteOf maskOf reads part mask read readTo
+    slotFor decode sought answered judged known stray lacking find takes isIn lists rxBwCodes narrowOf narrowsOf tab tabFrom byteOf maskOf reads part mask
+    read readTo
 example = (refl, refl, refl)

@@ -6,7 +6,6 @@
 --     without-room                    a removal frees the bytes of its frame
 --     setting-put                     a setting's frame is put, or refused for room
 --     setting-full, put-eight         8 exactly when the list with the frame would not fit
---     decode-own                      the decoder's refusals are 1 to 5
 --     setting-over                    an overwrite never needs room
 --     checked-put                     what the checked builder makes of a setting is never refused but for room
 --     replay-whole                    a replay reports the sum of the lengths and one byte a frame
@@ -23,8 +22,7 @@ use borrow.Author.Tests.{eq-eqb, eqb-true, le-leb, leb-false, lt-leb, lt-ltb, lt
 use lib.Dec.{eqb, leb, ltb}
 use lib.ListN.{drop, getD, length, length-append, take}
 use lib.Seq.{take-at}
-use Rattle.table.specs.Laid.{find}
-use Rattle.table.specs.Table.{kinds, rows, settings}
+use Rattle.table.specs.Table.{settings}
 use Rattle.settings.specs.Settings.{lacks, sizeOf, slotFor, slotIn, slotOf}
 use Rattle.settings.proofs.Settings.{slot-one, slotOf-length}
 use Rattle.contents.specs.Frames.{flat, held}
@@ -34,12 +32,11 @@ use Rattle.contents.proofs.Judged.{Bytes, apart, judge-image}
 use Rattle.book.specs.Plain.{Turn, askOn, become, frameOf, placed, putOn, refuse, replayOn, seat, swapIn, tell, without}
 use Rattle.book.proofs.Putting.{swap-room}
 use Rattle.refusal.specs.Numbers.{numberOf}
-use Rattle.refusal.specs.declared.Refusal.{Refusal}
-use Rattle.refusal.specs.declared.Refusal.the-variants.{NoRoom, NotAKind, NotHeld, OutputShort, ShortFrame, StrayBit, UnknownCode, UnknownOpcode, WrongLength}
+use Rattle.refusal.specs.declared.Refusal.the-variants.{NoRoom, NotAKind, NotHeld, OutputShort}
 use Rattle.builder.specs.Building.{checked, makes}
-use Rattle.decoder.specs.Decoding.{Reading, decode, judged, known, lackingAt, reading, refuses, strayAt}
-use Rattle.table.specs.Narrowed.{argumentsIn, opcode}
+use Rattle.decoder.specs.Decoding.{Reading, decode, reading, refuses}
 use Rattle.codec.proofs.Laws.{decode-checked}
+use Rattle.codec.proofs.Places.{decode-own}
 use Rattle.reel.specs.declared.Step.the-variants.{End}
 use Rattle.reel.specs.Reel.{reelOf, walk}
 use Rattle.reel.proofs.Walks.{walk-whole}
@@ -202,32 +199,6 @@ module _ (f o : List ℕ) (room : ℕ) (fs : List (List ℕ)) (a : slotOf f < se
   setting-over h S r =
       let e : length (flat (swapIn (slotOf f) f fs)) ≡ length (flat fs) = swap-room (slotOf f) f fs refl (slotOf-length f a) S h in
       setting-put ∙ rw (h, le-leb (length (flat (swapIn (slotOf f) f fs))) room (omega arith))
-
--- the decoder refuses by 1 to 5
-pub decode-own : (f : List ℕ) (x : Refusal) → decode f ≡ refuses x → numberOf x ≤ 5
-unfolding decode judged
-decode-own f x e = go (ltb (length f) 2) (ltb i kinds) (known rows (opcode f)) (ltb (strayAt r f) (length f)) (ltb (lackingAt r f) (length f)) e
-  where
-    i : ℕ
-    i = find rows (opcode f) (length f)
-
-    r : List ℕ
-    r = getD rows i []
-
-    own : (y : Refusal) → numberOf y ≤ 5 → refuses y ≡ refuses x → numberOf x ≤ 5
-    own y h q = let w : y ≡ x = cc in subst (λ (z : Refusal). numberOf z ≤ 5) w h
-
-    go : (a b d s t : Bool)
-        → cond a (refuses ShortFrame)
-        (cond b (cond s (refuses (StrayBit (strayAt r f))) (cond t (refuses (UnknownCode (lackingAt r f))) (reading (suc i) (argumentsIn r f))))
-        (cond d (refuses WrongLength) (refuses UnknownOpcode)))
-        ≡ refuses x → numberOf x ≤ 5
-    go true b d s t q = own ShortFrame (omega arith) q
-    go false true d true t q = own (StrayBit (strayAt r f)) (omega arith) q
-    go false true d false true q = own (UnknownCode (lackingAt r f)) (omega arith) q
-    go false true d false false q = absurd (apart (cc))
-    go false false true s t q = own WrongLength (omega arith) q
-    go false false false s t q = own UnknownOpcode (omega arith) q
 
 -- 8 is given to a setting's frame alone
 pub put-eight : (f o : List ℕ) (room : ℕ) (fs : List (List ℕ)) → putOn f o room fs .answer ≡ Refused NoRoom

@@ -1,5 +1,6 @@
+pub mod Apart
 pub mod Padded
 pub mod Arguments
 pub mod Returns
-pub mod Typed
+pub mod Taking
 pub mod Outcome

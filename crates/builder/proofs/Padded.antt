@@ -41,10 +41,12 @@ padded-from i zero n b l h = let z : n - 0 ≡ n = omega arith in zeros-from i n
 padded-from i (suc m) zero b l h = absurd (not-suc-le-zero l)
 padded-from i (suc m) (suc n) b l h =
     let z : n - m ≡ suc n - suc m = omega arith in
-    ap (λ (t : List ℕ). b i ∷ t) (padded-from (suc i) m n b (le-of-suc-le-suc l) (λ k j. h k (omega arith)) ∙ ap (λ (x : ℕ). tabFrom (suc i) m b ++ replicate x 0) z)
+    ap (λ (t : List ℕ). b i ∷ t) (padded-from (suc i) m n b (le-of-suc-le-suc l) (λ k j. h k (omega arith))
+    ∙ ap (λ (x : ℕ). tabFrom (suc i) m b ++ replicate x 0) z)
 
 -- what is put into 12 zeros is the frame, with zeros behind it
-pub padded-frame : (n : ℕ) (fs : List Field) (vs : List ℕ) → n ≤ 12 → T (soundAll n fs) → puts (replicate 12 0) fs vs ≡ tab n (byteOf fs vs) ++ replicate (12 - n) 0
+pub padded-frame : (n : ℕ) (fs : List Field) (vs : List ℕ) → n ≤ 12 → T (soundAll n fs) → puts (replicate 12 0) fs vs ≡ tab n (byteOf fs vs) ++ replicate
+    (12 - n) 0
 unfolding tab
 padded-frame n fs vs h t =
     puts-zero 12 (omega arith) fs vs (sound-more n 12 fs h t) ∙ padded-from 0 n 12 (byteOf fs vs) h (λ k l. none-after n fs vs k t (omega arith))

@@ -4,12 +4,12 @@
 ghost use mathlib.Core.Path.{_≡_};
 ghost use mathlib.Core.List.{_∷_};
 ghost use Prim.Native.Nat.{_≤_, _<_};
-ghost use lib.ListN.{length, getD, replicate};
+ghost use lib.ListN.{length, replicate};
 ghost use Rattle.frame.specs.Layout.{puts};
 ghost use Rattle.table.specs.Table.{kinds, countOf, numbersOf};
-ghost use Rattle.table.specs.Narrowed.{fieldsOf, frameOf, Ready};
-ghost use Rattle.builder.specs.Typed.{coded, widened, rangeOf, rangedRow, called, plainBy};
-ghost use Rattle.builder.specs.Building.{refuses, outside, unless, checked, built};
+ghost use Rattle.builder.specs.Building.{refuses, firstMisfit, builds, checked, plainBy, built};
+ghost use Rattle.builder.specs.Ways.{takesBy, fieldBy, rowBy, frameBy, madeAt};
+use frame::Field;
 use refusal::Refusal;
 
 pub enum Verdict {
@@ -21,6 +21,18 @@ pub enum Verdict {
 pub struct Built {
     pub verdict: Verdict,
     pub bytes: [u8; 12],
+}
+
+// Which of the two builders.
+enum Way {
+    Plain,
+    Checked,
+}
+
+// Which argument is the first that its field does not take, counted from 1.
+pub enum Misfit {
+    None,
+    At(usize),
 }
 
 fn u32_as_usize(x: u32) -> usize
@@ -35,42 +47,64 @@ fn u32_as_u64(x: u32) -> u64
     x as u64
 }
 
+// The field of a cell.
+fn field_of(way: Way, number: u32) -> Field
+    ensures { λ r. ⌜ r ≡ fieldBy way number ⌝ }
+{
+    match way {
+        Way::Plain => table::plain_field(number),
+        Way::Checked => table::narrow_field(number),
+    }
+}
+
+// Whether the builder takes v for the field.
+fn is_fine(way: Way, number: u32, v: u64) -> bool
+    ensures { λ r. ⌜ r ≡ takesBy way number v ⌝ }
+{
+    match way {
+        Way::Plain => codes::is_accepted(number, v),
+        Way::Checked => codes::is_allowed(number, v),
+    }
+}
+
 // The opcode and the arguments put into their fields; zeros follow.
-fn packed(row: [u32; 13], op: u64, args: &[u64]) -> [u8; 12]
+fn packed(way: Way, row: [u32; 13], op: u64, args: &[u64]) -> [u8; 12]
     requires { ⌜ (countOf row ≤ 9) × (length (now args) ≡ countOf row) ⌝ }
-    ensures { λ r. ⌜ r ≡ puts (replicate 12 0) (fieldsOf row) (op ∷ now (args .entry)) ⌝ }
+    ensures { λ r. ⌜ r ≡ puts (replicate 12 0) (rowBy way row) (op ∷ now (args .entry)) ⌝ }
 {
     let mut out = [0u8; 12];
-    frame::put(&mut out, table::narrow_field(table::OPCODE), op);
+    frame::put(&mut out, field_of(way, table::OPCODE), op);
     let n = u32_as_usize(row[3]);
     let mut j: usize = 0;
     while j < n {
-        frame::put(&mut out, table::narrow_field(row[4 + j]), args[j]);
+        frame::put(&mut out, field_of(way, row[4 + j]), args[j]);
         j += 1;
     }
     out
 }
 
-// ---- the checked builder
-
-// The first argument outside its range, counted from 1; 0 where there is none.
-fn first_outside(row: [u32; 13], args: &[u64]) -> usize
+// The first argument that its field does not take, or that is missing or surplus.
+fn first_misfit(way: Way, row: [u32; 13], args: &[u64]) -> Misfit
     requires { ⌜ countOf row ≤ 9 ⌝ }
-    ensures { λ r. ⌜ r ≡ outside 1 (numbersOf row) (now (args .entry)) ⌝ }
+    ensures { λ r. ⌜ r ≡ firstMisfit (takesBy way) 1 (numbersOf row) (now (args .entry)) ⌝ }
 {
     let n = u32_as_usize(row[3]);
     let mut j: usize = 0;
     while j < n {
         if args.len() <= j {
-            return j + 1;
+            return Misfit::At(j + 1);
         }
-        if codes::is_allowed(row[4 + j], args[j]) {
+        if is_fine(way, row[4 + j], args[j]) {
             j += 1;
         } else {
-            return j + 1;
+            return Misfit::At(j + 1);
         }
     }
-    if n < args.len() { n + 1 } else { 0 }
+    if n < args.len() {
+        Misfit::At(n + 1)
+    } else {
+        Misfit::None
+    }
 }
 
 fn declined(why: Refusal) -> Built
@@ -83,25 +117,28 @@ fn declined(why: Refusal) -> Built
     }
 }
 
-// The frame of the row's kind, or its first argument that is outside its range.
-fn build(row: [u32; 13], args: &[u64]) -> Built
-    requires { ⌜ Ready row ⌝ }
-    ensures { λ r. ⌜ r ≡ built (unless (outside 1 (numbersOf row) (now (args .entry))) (frameOf row (now (args .entry)))) ⌝ }
+// The frame of the row at a place, or its first argument that does not fit.
+fn build(way: Way, i: usize, args: &[u64]) -> Built
+    requires { ⌜ i < kinds ⌝ }
+    ensures { λ r. ⌜ r ≡ built (madeAt way i (now (args .entry))) ⌝ }
 {
-    let bad = first_outside(row, args);
-    if 0 < bad {
-        return declined(Refusal::ArgumentOutside(bad));
-    }
-    let bytes = packed(row, u32_as_u64(row[0]), args);
-    Built {
-        verdict: Verdict::Frame(u32_as_usize(row[1])),
-        bytes,
+    let row = table::row_at(i);
+    let misfit = first_misfit(way, row, args);
+    match misfit {
+        Misfit::At(n) => declined(Refusal::ArgumentOutside(n)),
+        Misfit::None => {
+            let bytes = packed(way, row, u32_as_u64(row[0]), args);
+            Built {
+                verdict: Verdict::Frame(u32_as_usize(row[1])),
+                bytes,
+            }
+        }
     }
 }
 
-// The frame of a kind for its arguments, or why there is none.
-pub fn checked(kind: u64, args: &[u64]) -> Built
-    ensures { λ r. ⌜ r ≡ built (checked kind (now (args .entry))) ⌝ }
+// The frame of a kind, or why there is none.
+fn by_kind(way: Way, kind: u64, args: &[u64]) -> Built
+    ensures { λ r. ⌜ r ≡ built (builds (takesBy way) (frameBy way) kind (now (args .entry))) ⌝ }
 {
     if kind == 0 {
         return declined(Refusal::NotAKind);
@@ -109,114 +146,14 @@ pub fn checked(kind: u64, args: &[u64]) -> Built
     if table::KINDS < kind {
         return declined(Refusal::NotAKind);
     }
-    let row = table::row_at((kind - 1) as usize);
-    build(row, args)
+    build(way, (kind - 1) as usize, args)
 }
 
-// ---- the plain builder, by number
-
-// Which arguments of each kind the Rust takes as an enum or a yes or no: bit 0 is the first argument's.
-const CODED: [u32; table::KINDS as usize] = [
-    0b1_1111,
-    0b1_1100,
-    0b10,
-    0,
-    0b1,
-    0b1,
-    0b1010,
-    0,
-    0,
-    0,
-    0b1,
-    0,
-    0,
-    0b1,
-    0b1000,
-    0b110,
-    0b1_1011_1110,
-    0b1,
-    0,
-    0b10,
-    0,
-    0,
-    0,
-    0,
-    0b1,
-    0b11,
-    0b11,
-    0b11,
-    0,
-    0,
-    0b1,
-    0b100,
-    0b11,
-    0,
-    0b11,
-    0,
-    0,
-    0,
-    0b100,
-];
-
-// All nine arguments.
-const ALL: u32 = 0b1_1111_1111;
-
-// The cell of a field that holds any number.
-const ANY: u32 = 0x0040_0000;
-
-fn coded_at(i: usize) -> u32
-    requires { ⌜ i < kinds ⌝ }
-    ensures { λ r. ⌜ r ≡ getD coded i 0 ⌝ }
+// The frame of a kind for its arguments, or why there is none.
+pub fn checked(kind: u64, args: &[u64]) -> Built
+    ensures { λ r. ⌜ r ≡ built (checked kind (now (args .entry))) ⌝ }
 {
-    CODED[i]
-}
-
-// The cell, with the width that the plain builder has.
-fn widened(number: u32) -> u32
-    ensures { λ r. ⌜ r ≡ widened number ⌝ }
-{
-    let w = (number / 0x1_0000 % 256 + number / 0x1000 % 16) % 256;
-    number / 0x100_0000 * 0x100_0000 + w * 0x1_0000 + number % 0x1000
-}
-
-// The range of an argument, as a cell.
-fn range_of(number: u32, is_coded: bool) -> u32
-    ensures { λ r. ⌜ r ≡ rangeOf number «is_coded» ⌝ }
-{
-    if is_coded { widened(number) } else { ANY }
-}
-
-// The row, with the arguments' ranges in the place of its cells.
-fn ranged(row: [u32; 13], coded: u32) -> [u32; 13]
-    ensures { λ r. ⌜ r ≡ rangedRow row coded ⌝ }
-{
-    let mut out = row;
-    let mut left = coded;
-    let mut j: usize = 0;
-    while j < 9 {
-        let cell = range_of(row[4 + j], left % 2 == 1);
-        out[4 + j] = cell;
-        left = left / 2;
-        j += 1;
-    }
-    out
-}
-
-// The frame of the row at a place, unless its builder could not be called with the arguments.
-fn build_plain(i: usize, args: &[u64]) -> Built
-    requires { ⌜ i < kinds ⌝ }
-    ensures { λ r. ⌜ r ≡ built (called i (now (args .entry))) ⌝ }
-{
-    let row = table::row_at(i);
-    let bad = first_outside(ranged(row, coded_at(i)), args);
-    if 0 < bad {
-        return declined(Refusal::ArgumentOutside(bad));
-    }
-    let bytes = packed(ranged(row, ALL), u32_as_u64(row[0]), args);
-    Built {
-        verdict: Verdict::Frame(u32_as_usize(row[1])),
-        bytes,
-    }
+    by_kind(Way::Checked, kind, args)
 }
 
 // The plain builder of a kind, called with numbers: those that fit no field are masked, and only what the typed builder could not be
@@ -224,11 +161,5 @@ fn build_plain(i: usize, args: &[u64]) -> Built
 pub fn plain(kind: u64, args: &[u64]) -> Built
     ensures { λ r. ⌜ r ≡ built (plainBy kind (now (args .entry))) ⌝ }
 {
-    if kind == 0 {
-        return declined(Refusal::NotAKind);
-    }
-    if table::KINDS < kind {
-        return declined(Refusal::NotAKind);
-    }
-    build_plain((kind - 1) as usize, args)
+    by_kind(Way::Plain, kind, args)
 }

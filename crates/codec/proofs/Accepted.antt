@@ -3,30 +3,36 @@
 use mathlib.Core.Path.{_≡_, refl, sym, ap, ap₂, _∙_, subst}
 use mathlib.Core.Bool.{Bool, true, false, cond, _&&_}
 use mathlib.Core.List.{List, [], _∷_}
-use Prim.Native.Nat.{ℕ, zero, suc, _+_, _-_, _^_, _≤_, _<_, min, zero-le, suc-le-suc}
-use native.Mathlib.Nat.{le-of-suc-le-suc, not-suc-le-zero, zero-add, add-zero, add-suc, suc-add}
+use Prim.Native.Nat.{ℕ, zero, suc, _+_, _-_, _^_, _≤_, _<_, min}
 use native.Mathlib.Omega.{arith}
-use borrow.Author.Tests.{eq-eqb, lt-ltb, le-ltb, ltb-true, ltb-false}
+use borrow.Author.Tests.{lt-ltb, le-ltb, ltb-true, ltb-false}
 use lib.Bits.{bitAnd}
-use lib.Dec.{T, leb, ltb, eqb, leb→le, ltb→lt, lt→ltb, eqb→eq}
+use lib.Dec.{T, leb, ltb, leb→le, ltb→lt, lt→ltb}
 use lib.ListN.{length, getD}
-use Rattle.frame.specs.Layout.{bytes, tab, tabFrom, byteOf, maskOf, reads, fitting, layout}
+use Rattle.frame.specs.Layout.{bytes, tab, byteOf, maskOf, reads, fitting, layout}
 use Rattle.frame.proofs.Fields.{and-in, both-left, both-right, length-tab, getD-tab, checked-reads, reads-fit, frame-back, clean}
 use Rattle.table.specs.Number.{narrowOf, narrowsOf, codesOf}
 use Rattle.table.specs.Codes.{takes}
 use Rattle.table.specs.Table.{kinds, rows, opOf, lenOf, numbersOf, opNumber, rowOf}
-use Rattle.table.specs.Laid.{find}
-use Rattle.table.proofs.Rows.{Laid, count, row-laid, row-found, found-row}
-use Rattle.refusal.specs.declared.Refusal.the-variants.{ShortFrame, UnknownOpcode, WrongLength, StrayBit, UnknownCode, NotAKind}
 use Rattle.table.specs.Narrowed.{fieldsOf, frameOf, opcode, argumentsIn}
-use Rattle.codes.specs.Allowed.{allows}
-use Rattle.decoder.specs.Decoding as decoder
-use Rattle.decoder.specs.Decoding.{reading, stray, strayAt, lacking, lackingAt, judged, known, decode}
-use Rattle.builder.specs.Building as builder
-use Rattle.builder.specs.Building.{makes, outside, unless, checked}
-use Rattle.codec.proofs.Fitting.{starts, narrows, allFit, row-opcode, row-fits}
+use Rattle.table.specs.Laid.{find}
 use Rattle.table.proofs.Cells.{length-narrows}
+use Rattle.table.proofs.Rows.{Laid, row-laid, row-found}
+use Rattle.refusal.specs.declared.Refusal.the-variants.{ShortFrame, StrayBit, UnknownCode, NotAKind}
+use Rattle.codes.specs.Allowed.{allows}
+use Rattle.decoder.specs.declared.Sought.{Sought}
+use Rattle.decoder.specs.declared.Sought.the-variants.{Row, WrongLength, UnknownOpcode}
+use Rattle.decoder.specs.Decoding as decoder
+use Rattle.decoder.specs.Decoding.{reading, strayAt, lacking, lackingAt, judged, sought, answered, decode}
+use Rattle.decoder.proofs.Apart.{refuses-reading}
 use Rattle.decoder.proofs.Stray.{none-stray, stray-clean}
+use Rattle.decoder.proofs.Returns.{Found, sought-row}
+use Rattle.builder.specs.declared.Misfit.{Misfit}
+use Rattle.builder.specs.declared.Misfit.the-variants.{None, At}
+use Rattle.builder.specs.Building as builder
+use Rattle.builder.specs.Building.{makes, firstMisfit, unless, builds, checked}
+use Rattle.builder.proofs.Apart.{at-none, refuses-makes}
+use Rattle.codec.proofs.Fitting.{starts, narrows, allFit, row-opcode, row-fits}
 
 pub of-true : (b : Bool) → b ≡ true → T b
 of-true b e = subst T (sym e) tt
@@ -42,33 +48,34 @@ pub record Inside (cs vs : List ℕ) : Type 0 where
   pub long : length vs ≡ length cs
   pub taken : (n : ℕ) → lacking n cs vs ≡ n
 
-pub inside : (n : ℕ) (cs vs : List ℕ) → outside (suc n) cs vs ≡ 0 → Inside cs vs
-unfolding outside fitting narrowsOf lacking
+pub inside : (n : ℕ) (cs vs : List ℕ) → firstMisfit allows n cs vs ≡ None → Inside cs vs
+unfolding firstMisfit fitting narrowsOf lacking
 inside n [] [] e = record { fit = tt; long = refl; taken = λ m. refl }
-inside n [] (v ∷ vs) e = absurd (omega arith)
-inside n (c ∷ cs) [] e = absurd (omega arith)
+inside n [] (v ∷ vs) e = absurd (at-none e)
+inside n (c ∷ cs) [] e = absurd (at-none e)
 inside n (c ∷ cs) (v ∷ vs) e = go (ltb v (2 ^ narrowOf c .w)) (takes (codesOf c) v) refl refl e (inside (suc n) cs vs)
   where
-    go : (a b : Bool) → ltb v (2 ^ narrowOf c .w) ≡ a → takes (codesOf c) v ≡ b → cond (a && b) (outside (suc (suc n)) cs vs) (suc n) ≡ 0
-        → (outside (suc (suc n)) cs vs ≡ 0 → Inside cs vs) → Inside (c ∷ cs) (v ∷ vs)
+    go : (a b : Bool) → ltb v (2 ^ narrowOf c .w) ≡ a → takes (codesOf c) v ≡ b → cond (a && b) (firstMisfit allows (suc n) cs vs) (At n) ≡ None
+        → (firstMisfit allows (suc n) cs vs ≡ None → Inside cs vs) → Inside (c ∷ cs) (v ∷ vs)
     go true true p q z ih =
         let w : Inside cs vs = ih z in record {
           fit = and-in (ltb v (2 ^ narrowOf c .w)) (fitting (narrowsOf cs) vs) (of-true _ p) (w .fit);
           long = ap suc (w .long);
           taken = λ m. ap (λ (b : Bool). cond b (lacking m cs vs) (min (narrowOf c .first) (lacking m cs vs))) q ∙ w .taken m;
         }
-    go true false p q z ih = absurd (omega arith)
-    go false b p q z ih = absurd (omega arith)
+    go true false p q z ih = absurd (at-none z)
+    go false b p q z ih = absurd (at-none z)
 
--- what a frame holds fits, so that only a code can be outside
-none-outside : (m n : ℕ) (cs vs : List ℕ) → T (fitting (narrowsOf cs) vs) → T (allFit m cs) → m ≤ lacking m cs vs → outside n cs vs ≡ 0
-unfolding outside fitting narrowsOf lacking allFit starts
-none-outside m n [] [] t s h = refl
-none-outside m n [] (v ∷ vs) t s h = absurd t
-none-outside m n (c ∷ cs) [] t s h = absurd t
-none-outside m n (c ∷ cs) (v ∷ vs) t s h =
+-- what a frame holds fits, so that only a code can fail
+none-fails : (m n : ℕ) (cs vs : List ℕ) → T (fitting (narrowsOf cs) vs) → T (allFit m cs) → m ≤ lacking m cs vs → firstMisfit allows n cs vs ≡ None
+unfolding firstMisfit fitting narrowsOf lacking allFit starts
+none-fails m n [] [] t s h = refl
+none-fails m n [] (v ∷ vs) t s h = absurd t
+none-fails m n (c ∷ cs) [] t s h = absurd t
+none-fails m n (c ∷ cs) (v ∷ vs) t s h =
     go (takes (codesOf c) v) refl h
-    (none-outside m (suc n) cs vs (both-right (ltb v (2 ^ narrowOf c .w)) (fitting (narrowsOf cs) vs) t) (both-right (ltb (narrowOf c .first) m && narrows c) (allFit m cs) s))
+    (none-fails m (suc n) cs vs (both-right (ltb v (2 ^ narrowOf c .w)) (fitting (narrowsOf cs) vs) t)
+    (both-right (ltb (narrowOf c .first) m && narrows c) (allFit m cs) s))
   where
     low : narrowOf c .first < m
     low = ltb→lt _ _ (both-left (ltb (narrowOf c .first) m) (narrows c) (both-left (ltb (narrowOf c .first) m && narrows c) (allFit m cs) s))
@@ -77,8 +84,8 @@ none-outside m n (c ∷ cs) (v ∷ vs) t s h =
     small = is-true _ (both-left (ltb v (2 ^ narrowOf c .w)) (fitting (narrowsOf cs) vs) t)
 
     go : (b : Bool) → takes (codesOf c) v ≡ b → m ≤ cond b (lacking m cs vs) (min (narrowOf c .first) (lacking m cs vs))
-        → (m ≤ lacking m cs vs → outside (suc n) cs vs ≡ 0) → cond (allows c v) (outside (suc n) cs vs) n ≡ 0
-    go true q l ih = ap₂ (λ (a b : Bool). cond (a && b) (outside (suc n) cs vs) n) small q ∙ ih l
+        → (m ≤ lacking m cs vs → firstMisfit allows (suc n) cs vs ≡ None) → cond (allows c v) (firstMisfit allows (suc n) cs vs) (At n) ≡ None
+    go true q l ih = ap₂ (λ (a b : Bool). cond (a && b) (firstMisfit allows (suc n) cs vs) (At n)) small q ∙ ih l
     go false q l ih = absurd (omega (arith, low))
 
 -- ---- a frame that is built decodes
@@ -116,19 +123,21 @@ module _ (r vs : List ℕ) (lay : T (layout (lenOf r) (fieldsOf r))) (small : op
   judged-back : (k : ℕ) → judged k r (frameOf r vs) ≡ reading k vs
   unfolding judged
   judged-back k =
-      let z : lackingAt r (frameOf r vs) ≡ length (frameOf r vs) = ap (lacking (length (frameOf r vs)) (numbersOf r)) arguments-back ∙ i .taken (length (frameOf r vs)) in
+      let z : lackingAt r (frameOf r vs) ≡ length (frameOf r vs) = ap (lacking (length (frameOf r vs)) (numbersOf r)) arguments-back
+      ∙ i .taken (length (frameOf r vs)) in
       let q : ltb (length (frameOf r vs)) (length (frameOf r vs)) ≡ false = le-ltb (length (frameOf r vs)) (length (frameOf r vs)) (omega arith) in
       simp (stray-back, z, q) (ap (reading k) arguments-back)
 
 decode-found : (f : List ℕ) (i : ℕ) → 2 ≤ length f → find rows (opcode f) (length f) ≡ i → i < kinds → decode f ≡ judged (suc i) (getD rows i []) f
-unfolding decode
+unfolding decode sought answered
 decode-found f i h e l = simp (le-ltb (length f) 2 h, e, lt-ltb i kinds l)
 
-pub row-decodes : (i : ℕ) (vs : List ℕ) → i < kinds → outside 1 (numbersOf (getD rows i [])) vs ≡ 0 → decode (frameOf (getD rows i []) vs) ≡ reading (suc i) vs
+pub row-decodes : (i : ℕ) (vs : List ℕ) → i < kinds → firstMisfit allows 1 (numbersOf (getD rows i [])) vs ≡ None
+    → decode (frameOf (getD rows i []) vs) ≡ reading (suc i) vs
 row-decodes i vs h e =
     let r : List ℕ = getD rows i [] in
     let z : Laid r = row-laid i h in
-    let n : Inside (numbersOf r) vs = inside 0 (numbersOf r) vs e in
+    let n : Inside (numbersOf r) vs = inside 1 (numbersOf r) vs e in
     let o : opOf r < 65536 = row-opcode i h in
     let el : length (frameOf r vs) ≡ lenOf r = frame-length r vs (z .apart-narrowed) o n in
     decode-found (frameOf r vs) i (omega (arith, z .least)) (ap₂ (find rows) (opcode-back r vs (z .apart-narrowed) o n) el ∙ row-found i h) h
@@ -139,27 +148,27 @@ row-decodes i vs h e =
 pub record Made (k : ℕ) (vs f : List ℕ) : Type 0 where
   pub low : 0 < k
   pub high : k ≤ kinds
-  pub none : outside 1 (numbersOf (rowOf k)) vs ≡ 0
+  pub none : firstMisfit allows 1 (numbersOf (rowOf k)) vs ≡ None
   pub gives : frameOf (rowOf k) vs ≡ f
 
-unless-made : (n : ℕ) (g f : List ℕ) → unless n g ≡ makes f → (n ≡ 0) × (g ≡ f)
+unless-made : (m : Misfit) (g f : List ℕ) → unless m g ≡ makes f → (m ≡ None) × (g ≡ f)
 unfolding unless
-unless-made zero g f e = (refl, cc)
-unless-made (suc n) g f e = absurd (let w : _≡_ {A = ℕ} 0 1 = cc in omega arith)
+unless-made None g f e = (refl, cc)
+unless-made (At n) g f e = absurd (refuses-makes e)
 
 pub made : (k : ℕ) (vs f : List ℕ) → checked k vs ≡ makes f → Made k vs f
-unfolding checked
+unfolding builds
 made k vs f e = go (ltb 0 k) (leb k kinds) refl refl e
   where
-    n : ℕ
-    n = outside 1 (numbersOf (rowOf k)) vs
+    m : Misfit
+    m = firstMisfit allows 1 (numbersOf (rowOf k)) vs
 
-    go : (a b : Bool) → ltb 0 k ≡ a → leb k kinds ≡ b → cond (a && b) (unless n (frameOf (rowOf k) vs)) (builder.refuses NotAKind) ≡ makes f → Made k vs f
+    go : (a b : Bool) → ltb 0 k ≡ a → leb k kinds ≡ b → cond (a && b) (unless m (frameOf (rowOf k) vs)) (builder.refuses NotAKind) ≡ makes f → Made k vs f
     go true true p q z =
-        let u = unless-made n (frameOf (rowOf k) vs) f z in
+        let u = unless-made m (frameOf (rowOf k) vs) f z in
         record { low = ltb-true 0 k p; high = leb→le k kinds (of-true _ q); none = u .0; gives = u .1 }
-    go true false p q z = absurd (let w : _≡_ {A = ℕ} 0 1 = cc in omega arith)
-    go false b p q z = absurd (let w : _≡_ {A = ℕ} 0 1 = cc in omega arith)
+    go true false p q z = absurd (refuses-makes z)
+    go false b p q z = absurd (refuses-makes z)
 
 -- ---- what it takes that a frame decodes
 
@@ -168,7 +177,7 @@ pub record Read (f : List ℕ) (k : ℕ) (vs : List ℕ) : Type 0 where
   pub kind : k ≡ suc at
   pub row : at < kinds
   pub gives : frameOf (getD rows at []) vs ≡ f
-  pub none : outside 1 (numbersOf (getD rows at [])) vs ≡ 0
+  pub none : firstMisfit allows 1 (numbersOf (getD rows at [])) vs ≡ None
 
 -- the frame of what a clean frame holds is the frame
 frame-again : (r f : List ℕ) → opcode f ≡ opOf r → lenOf r ≡ length f → length f ≤ strayAt r f → frameOf r (argumentsIn r f) ≡ f
@@ -177,7 +186,8 @@ frame-again r f eo el h =
     ap₂ (λ (n o : ℕ). tab n (byteOf (fieldsOf r) (o ∷ argumentsIn r f))) el (sym eo)
     ∙ frame-back (fieldsOf r) f (none-stray (maskOf (fieldsOf r)) f h)
 
-judged-read : (i k : ℕ) (f vs : List ℕ) → i < kinds → opcode f ≡ opOf (getD rows i []) → lenOf (getD rows i []) ≡ length f → judged (suc i) (getD rows i []) f ≡ reading k vs → Read f k vs
+judged-read : (i k : ℕ) (f vs : List ℕ) → i < kinds → opcode f ≡ opOf (getD rows i []) → lenOf (getD rows i []) ≡ length f
+    → judged (suc i) (getD rows i []) f ≡ reading k vs → Read f k vs
 unfolding judged
 judged-read i k f vs h eo el e = go (ltb (strayAt r f) (length f)) (ltb (lackingAt r f) (length f)) refl refl e
   where
@@ -188,9 +198,10 @@ judged-read i k f vs h eo el e = go (ltb (strayAt r f) (length f)) (ltb (lacking
     xs = argumentsIn r f
 
     go : (a b : Bool) → ltb (strayAt r f) (length f) ≡ a → ltb (lackingAt r f) (length f) ≡ b
-        → cond a (decoder.refuses (StrayBit (strayAt r f))) (cond b (decoder.refuses (UnknownCode (lackingAt r f))) (reading (suc i) xs)) ≡ reading k vs → Read f k vs
-    go true b p q z = absurd (let w : _≡_ {A = ℕ} 0 1 = cc in omega arith)
-    go false true p q z = absurd (let w : _≡_ {A = ℕ} 0 1 = cc in omega arith)
+        → cond a (decoder.refuses (StrayBit (strayAt r f))) (cond b (decoder.refuses (UnknownCode (lackingAt r f))) (reading (suc i) xs)) ≡ reading k vs
+        → Read f k vs
+    go true b p q z = absurd (refuses-reading z)
+    go false true p q z = absurd (refuses-reading z)
     go false false p q z =
         let ev : xs ≡ vs = cc in
         let ek : k ≡ suc i = cc in
@@ -199,21 +210,18 @@ judged-read i k f vs h eo el e = go (ltb (strayAt r f) (length f)) (ltb (lacking
           kind = ek;
           row = h;
           gives = ap (frameOf r) (sym ev) ∙ frame-again r f eo el (ltb-false _ _ p);
-          none = ap (outside 1 (numbersOf r)) (sym ev) ∙ none-outside (length f) 1 (numbersOf r) xs (reads-fit (narrowsOf (numbersOf r)) (bytes f)) st (ltb-false _ _ q);
+          none = ap (firstMisfit allows 1 (numbersOf r)) (sym ev) ∙ none-fails (length f) 1 (numbersOf r) xs (reads-fit (narrowsOf (numbersOf r)) (bytes f))
+              st (ltb-false _ _ q);
         }
 
 pub decode-read : (f : List ℕ) (k : ℕ) (vs : List ℕ) → decode f ≡ reading k vs → Read f k vs
-unfolding decode
-decode-read f k vs e = go (ltb (length f) 2) (ltb i kinds) (known rows (opcode f)) refl e
+unfolding decode answered
+decode-read f k vs e = go (ltb (length f) 2) (sought (opcode f) (length f)) refl e
   where
-    i : ℕ
-    i = find rows (opcode f) (length f)
-
-    go : (a b d : Bool) → ltb i kinds ≡ b → cond a (decoder.refuses ShortFrame) (cond b (judged (suc i) (getD rows i []) f) (cond d (decoder.refuses WrongLength) (decoder.refuses UnknownOpcode))) ≡ reading k vs → Read f k vs
-    go true b d p z = absurd (let w : _≡_ {A = ℕ} 0 1 = cc in omega arith)
-    go false false true p z = absurd (let w : _≡_ {A = ℕ} 0 1 = cc in omega arith)
-    go false false false p z = absurd (let w : _≡_ {A = ℕ} 0 1 = cc in omega arith)
-    go false true d p z =
-        let l : i < kinds = ltb-true _ _ p in
-        let g = found-row rows (opcode f) (length f) (rw count l) in
-        judged-read i k f vs l (sym (g .0)) (g .1) z
+    go : (a : Bool) (x : Sought) → sought (opcode f) (length f) ≡ x → cond a (decoder.refuses ShortFrame) (answered f x) ≡ reading k vs → Read f k vs
+    go true x p z = absurd (refuses-reading z)
+    go false WrongLength p z = absurd (refuses-reading z)
+    go false UnknownOpcode p z = absurd (refuses-reading z)
+    go false (Row i) p z =
+        let g : Found (opcode f) (length f) i = sought-row (opcode f) (length f) i p in
+        judged-read i k f vs (g .row) (sym (g .has .0)) (g .has .1) z

@@ -28,7 +28,9 @@ use Rattle.table.specs.Narrowed.{fieldsOf}
 use Rattle.decoder.specs.Decoding as decoder
 use Rattle.decoder.specs.Decoding.{Reading, reading, decode}
 use Rattle.builder.specs.Building as builder
-use Rattle.builder.specs.Building.{Making, makes, unless, checked}
+use Rattle.builder.specs.Building.{Making, makes, unless, builds, checked}
+use Rattle.decoder.proofs.Apart.{refuses-reading}
+use Rattle.builder.proofs.Apart.{refuses-makes}
 use Rattle.codec.proofs.Fitting.{row-fits}
 use Rattle.codec.proofs.Accepted.{Inside, inside, Made, made, Read, decode-read, row-decodes}
 use Rattle.codec.proofs.Narrowing.{bytes-plain}
@@ -42,7 +44,7 @@ decode-checked k vs f e =
     ap decode (sym (m .gives)) ∙ row-decodes (k - 1) vs (omega (arith, m .low, m .high)) (m .none) ∙ ap (λ (n : ℕ). reading n vs) q
 
 pub checked-decode : (f : List ℕ) (k : ℕ) (vs : List ℕ) → decode f ≡ reading k vs → checked k vs ≡ makes f
-unfolding checked unless
+unfolding builds unless
 checked-decode f k vs e =
     let d : Read f k vs = decode-read f k vs e in
     let p : isKind k ≡ true = ap₂ _&&_ (lt-ltb 0 k (omega (arith, d .kind))) (le-leb k kinds (omega (arith, d .kind, d .row))) in
@@ -52,7 +54,7 @@ checked-decode f k vs e =
 -- ---- what is refused
 
 pub checked-refuses : (k : ℕ) (vs : List ℕ) (x : Refusal) → checked k vs ≡ builder.refuses x → (f : List ℕ) → decode f ≡ reading k vs → ⊥
-checked-refuses k vs x e f d = let q = checked-decode f k vs d in let w : _≡_ {A = ℕ} 0 1 = cc in omega arith
+checked-refuses k vs x e f d = refuses-makes (sym e ∙ checked-decode f k vs d)
 
 pub checked-refuses-all : (k : ℕ) (vs : List ℕ) → ((f : List ℕ) → decode f ≡ reading k vs → ⊥) → (x : Refusal) × (checked k vs ≡ builder.refuses x)
 checked-refuses-all k vs h = go (checked k vs) refl
@@ -62,7 +64,7 @@ checked-refuses-all k vs h = go (checked k vs) refl
     go (makes f) e = absurd (h f (decode-checked k vs f e))
 
 pub decode-refuses : (f : List ℕ) (x : Refusal) → decode f ≡ decoder.refuses x → (k : ℕ) (vs : List ℕ) → checked k vs ≡ makes f → ⊥
-decode-refuses f x e k vs d = let q = decode-checked k vs f d in let w : _≡_ {A = ℕ} 0 1 = cc in omega arith
+decode-refuses f x e k vs d = refuses-reading (sym e ∙ decode-checked k vs f d)
 
 pub decode-refuses-all : (f : List ℕ) → ((k : ℕ) (vs : List ℕ) → checked k vs ≡ makes f → ⊥) → (x : Refusal) × (decode f ≡ decoder.refuses x)
 decode-refuses-all f h = go (decode f) refl
@@ -78,7 +80,7 @@ unfolding byteOf narrowsOf narrowOf plainOf
 plain-checked k vs f e =
     let m : Made k vs f = made k vs f e in
     let l : k - 1 < kinds = omega (arith, m .low, m .high) in
-    let n : Inside (numbersOf (rowOf k)) vs = inside 0 (numbersOf (rowOf k)) vs (m .none) in
+    let n : Inside (numbersOf (rowOf k)) vs = inside 1 (numbersOf (rowOf k)) vs (m .none) in
     plain-is (k - 1) l vs
     ∙ tab-ext (lenOf (rowOf k)) (byteOf (plainsOf (opNumber ∷ numbersOf (rowOf k))) (opOf (rowOf k) ∷ vs)) (byteOf (fieldsOf (rowOf k)) (opOf (rowOf k) ∷ vs))
     (λ i h. ap (bitOr (part (narrowOf opNumber) (opOf (rowOf k)) i)) (bytes-plain (lenOf (rowOf k)) (numbersOf (rowOf k)) vs i (row-fits (k - 1) l) (n .fit)))
@@ -89,5 +91,9 @@ plain-checked k vs f e =
 pub decode-kind : (f : List ℕ) (k : ℕ) (vs : List ℕ) → decode f ≡ reading k vs → (0 < k) × (k ≤ kinds) × (length f ≡ lenOf (rowOf k))
 decode-kind f k vs e =
     let d : Read f k vs = decode-read f k vs e in
-    let q : d .at ≡ k - 1 = omega (arith, d .kind) in
-    (omega (arith, d .kind), omega (arith, d .kind, d .row), ap length (sym (d .gives)) ∙ length-tab (lenOf (getD rows (d .at) [])) _ ∙ ap (λ (i : ℕ). lenOf (getD rows i [])) q)
+    let q : d .at ≡ k - 1 = omega (arith, d .kind) in (
+      omega (arith, d .kind),
+      omega (arith, d .kind, d .row),
+      ap length (sym (d .gives)) ∙ length-tab (lenOf (getD rows (d .at) [])) _
+          ∙ ap (λ (i : ℕ). lenOf (getD rows i [])) q,
+    )

@@ -3,4 +3,3 @@ pub mod Accepted
 pub mod Narrowing
 pub mod Places
 pub mod Laws
-pub mod Handed

@@ -44,7 +44,8 @@ digit-wider v w u k h l b = ⊎-elim whole top (le-or-lt 8 (w - 8 * k))
         mod-eq-of-lt (lt-of-lt-of-le x (pow-mono m)) ∙ sym (mod-eq-of-lt x)
 
 -- of two fields that differ in width alone and take as many bytes
-part-wider : (f g : Field) (v i : ℕ) → g .first ≡ f .first → g .lo ≡ f .lo → g .le ≡ f .le → size f ≡ size g → f .w ≤ g .w → v < 2 ^ f .w → part g v i ≡ part f v i
+part-wider : (f g : Field) (v i : ℕ) → g .first ≡ f .first → g .lo ≡ f .lo → g .le ≡ f .le → size f ≡ size g → f .w ≤ g .w → v < 2 ^ f .w
+    → part g v i ≡ part f v i
 part-wider f g v i ef el ee es h l =
     ⊎-elim
     (λ a. ⊎-elim
@@ -79,5 +80,6 @@ bytes-plain n [] vs i a t = refl
 bytes-plain n (c ∷ cs) [] i a t = refl
 bytes-plain n (c ∷ cs) (v ∷ vs) i a t =
     ap₂ bitOr
-    (part-plain c v i (both-right (starts n c) (narrows c) (both-left (starts n c && narrows c) (allFit n cs) a)) (ltb→lt _ _ (both-left (ltb v (2 ^ narrowOf c .w)) (fitting (narrowsOf cs) vs) t)))
+    (part-plain c v i (both-right (starts n c) (narrows c) (both-left (starts n c && narrows c) (allFit n cs) a))
+    (ltb→lt _ _ (both-left (ltb v (2 ^ narrowOf c .w)) (fitting (narrowsOf cs) vs) t)))
     (bytes-plain n cs vs i (both-right (starts n c && narrows c) (allFit n cs) a) (both-right (ltb v (2 ^ narrowOf c .w)) (fitting (narrowsOf cs) vs) t))

@@ -7,3 +7,6 @@ is-taken-once κs a h o u p q i = (same p q i, o .1)
 
 is-allowed-once : Once codes.is_allowed.ended codes.is_allowed.Reads.Pre codes.is_allowed.Reads.Learnt
 is-allowed-once κs a h o u p q i = (same p q i, o .1)
+
+is-accepted-once : Once codes.is_accepted.ended codes.is_accepted.Reads.Pre codes.is_accepted.Reads.Learnt
+is-accepted-once κs a h o u p q i = (same p q i, o .1)

@@ -5,7 +5,8 @@ ghost use Prim.Native.Nat.{_^_};
 ghost use lib.Dec.{ltb};
 ghost use lib.ListN.{getD};
 ghost use Rattle.table.specs.Codes.{lists, isIn, takes};
-ghost use Rattle.codes.specs.Allowed.{allows};
+ghost use Rattle.table.specs.Number.{codesOf};
+ghost use Rattle.codes.specs.Allowed.{fits, allows, accepts};
 
 // The codes of `RxBw`, 64 to a word: bit v % 64 of word v / 64 is set where the enum has the code v.
 const RX_BW_0: u64 = 0x0000_00FF_FFBE_0001;
@@ -50,10 +51,11 @@ fn is_listed(list: usize, v: u64) -> bool
     false
 }
 
-// Whether a field's codes have v.
-pub fn is_taken(codes: u32, v: u64) -> bool
-    ensures { λ r. ⌜ r ≡ takes codes v ⌝ }
+// Whether the field takes v, so far as codes go.
+pub fn is_taken(number: u32, v: u64) -> bool
+    ensures { λ r. ⌜ r ≡ takes (codesOf number) v ⌝ }
 {
+    let codes = number % 0x800;
     if codes == 0 {
         return true;
     }
@@ -70,14 +72,33 @@ fn is_within(w: usize, v: u64) -> bool
     if w < 64 { v >> w == 0 } else { true }
 }
 
-// Whether v fits the field and its codes have it.
+// Whether v has at most w bits and the field takes it.
+fn is_fitting(w: usize, number: u32, v: u64) -> bool
+    ensures { λ r. ⌜ r ≡ fits w number v ⌝ }
+{
+    if is_within(w, v) {
+        is_taken(number, v)
+    } else {
+        false
+    }
+}
+
+// Whether the checked builder takes v for the field.
 pub fn is_allowed(number: u32, v: u64) -> bool
     ensures { λ r. ⌜ r ≡ allows number v ⌝ }
 {
     let f = table::narrow_field(number);
-    if is_within(f.w, v) {
-        is_taken(number % 4096, v)
+    is_fitting(f.w, number, v)
+}
+
+// Whether the plain builder takes v for the field: a number may be any, since it is masked.
+pub fn is_accepted(number: u32, v: u64) -> bool
+    ensures { λ r. ⌜ r ≡ accepts number v ⌝ }
+{
+    if number / 0x800 % 2 == 1 {
+        let f = table::plain_field(number);
+        is_fitting(f.w, number, v)
     } else {
-        false
+        true
     }
 }

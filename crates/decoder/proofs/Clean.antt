@@ -85,12 +85,16 @@ module _ (r f : List ℕ) (rd : Ready r) (el : lenOf r ≡ length f) (small : (i
       clash : length f ≤ strayAt r f → ⊥
       clash h =
           let c = none-stray m f h in
-          let p : bitAnd first (getD (heldOf r) 0 0) ≡ first = firsts ∙ clean-first (bytes f) m small masks (length f) (omega (arith, few)) c ∙ sym (iw .first-is) in
+          let p : bitAnd first (getD (heldOf r) 0 0) ≡ first = firsts ∙ clean-first (bytes f) m small masks (length f) (omega (arith, few)) c
+          ∙ sym (iw .first-is) in
           let q : bitAnd last (getD (heldOf r) 1 0) ≡ last = lasts ∙ clean-last (bytes f) m small masks (length f) (omega (arith, few)) c ∙ sym (iw .last-is) in
           subst T (sym (ap₂ _&&_ (eq-eqb _ _ p) (eq-eqb _ _ q)) ∙ e) tt
 
-pub none-lacking : (r : List ℕ) → length r ≡ 13 → Ready r → (f args : List ℕ) (t : Bool) → t ≡ true → t ≡ allTaken (numbersOf r) (bytes f) → args ≡ argumentsIn r f ++ replicate (9 - countOf r) 0
+pub none-lacking : (r : List ℕ) → length r ≡ 13 → Ready r → (f args : List ℕ) (t : Bool) → t ≡ true → t ≡ allTaken (numbersOf r) (bytes f)
+    → args ≡ argumentsIn r f ++ replicate (9 - countOf r) 0
     → length f ≡ lacking (length f) (numbersOf r) (take (countOf r) args)
 none-lacking r whole rd f args t e et ea =
-    sym (ap (lacking (length f) (numbersOf r)) (ap (take (countOf r)) ea ∙ take-at (argumentsIn r f) (replicate (9 - countOf r) 0) (countOf r) (length-reads (numbersOf r) (bytes f) ∙ length-numbers r whole (rd .few)))
+    sym (ap (lacking (length f) (numbersOf r))
+    (ap (take (countOf r)) ea ∙ take-at (argumentsIn r f) (replicate (9 - countOf r) 0) (countOf r)
+    (length-reads (numbersOf r) (bytes f) ∙ length-numbers r whole (rd .few)))
     ∙ taken-none (length f) (numbersOf r) (bytes f) (subst T (sym e ∙ et) tt))

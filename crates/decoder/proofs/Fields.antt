@@ -64,18 +64,21 @@ module _ (row : List ℕ) (whole : length row ≡ 13) (few : countOf row ≤ 9) 
 abbrev pub firstRead : List ℕ → List ℕ → ℕ → List ℕ
 firstRead row f j = reads (narrowsOf (take j (drop 4 row))) (bytes f) ++ replicate (9 - j) 0
 
-pub reads-more : (row f out : List ℕ) (j x : ℕ) → length row ≡ 13 → j < 9 → out ≡ firstRead row f j → x ≡ read (narrowOf (getD row (4 + j) 0)) (bytes f) → set out j x ≡ firstRead row f (j + 1)
+pub reads-more : (row f out : List ℕ) (j x : ℕ) → length row ≡ 13 → j < 9 → out ≡ firstRead row f j → x ≡ read (narrowOf (getD row (4 + j) 0)) (bytes f)
+    → set out j x ≡ firstRead row f (j + 1)
 reads-more row f out j x whole h eo ex =
     let q : 9 - j ≡ suc (8 - j) = omega arith in
     let r : 8 - j ≡ 9 - (j + 1) = omega arith in
     let cs : List ℕ = drop 4 row in
     ap (λ (l : List ℕ). set l j x) (eo ∙ ap (λ (k : ℕ). reads (narrowsOf (take j cs)) (bytes f) ++ replicate k 0) q)
-    ∙ set-at (reads (narrowsOf (take j cs)) (bytes f)) 0 (replicate (8 - j) 0) x j (length-reads (take j cs) (bytes f) ∙ omega (arith, length-take j cs, length-drop 4 row))
+    ∙ set-at (reads (narrowsOf (take j cs)) (bytes f)) 0 (replicate (8 - j) 0) x j
+    (length-reads (take j cs) (bytes f) ∙ omega (arith, length-take j cs, length-drop 4 row))
     ∙ sym (append-assoc (reads (narrowsOf (take j cs)) (bytes f)) (x ∷ []) (replicate (8 - j) 0))
     ∙ ap₂ (λ (l : List ℕ) (k : ℕ). l ++ replicate k 0)
     (ap (λ (y : ℕ). reads (narrowsOf (take j cs)) (bytes f) ++ (y ∷ [])) (ex ∙ ap (λ (c : ℕ). read (narrowOf c) (bytes f)) (sym (getD-drop 4 row j 0)))
     ∙ sym (reads-snoc (take j cs) (getD cs j 0) (bytes f))
-    ∙ ap (λ (l : List ℕ). reads (narrowsOf l) (bytes f)) (sym (take-suc cs j 0 (omega (arith, length-drop 4 row))) ∙ ap (λ (k : ℕ). take k cs) (sym (add-one j))))
+    ∙ ap (λ (l : List ℕ). reads (narrowsOf l) (bytes f)) (sym (take-suc cs j 0 (omega (arith, length-drop 4 row)))
+    ∙ ap (λ (k : ℕ). take k cs) (sym (add-one j))))
     r
 
 -- ---- a row's fields lie in the frame
@@ -97,7 +100,8 @@ get-read s f h = simp (sound-holds 16 f h)
 pub argument-sound : (row : List ℕ) (j : ℕ) → length row ≡ 13 → Ready row → j < countOf row → Sound (lenOf row) (narrowOf (getD row (4 + j) 0))
 unfolding narrowsOf soundAll
 argument-sound row j e r h =
-    let t : T (soundAll (lenOf row) (narrowsOf (numbersOf row))) = both-right (sound (lenOf row) (narrowOf opNumber)) (soundAll (lenOf row) (narrowsOf (numbersOf row))) (r .inside) in
+    let t : T (soundAll (lenOf row) (narrowsOf (numbersOf row))) = both-right (sound (lenOf row) (narrowOf opNumber))
+    (soundAll (lenOf row) (narrowsOf (numbersOf row))) (r .inside) in
     let g : getD (numbersOf row) j 0 ≡ getD row (4 + j) 0 = getD-take (countOf row) (drop 4 row) j 0 h ∙ getD-drop 4 row j 0 in
     subst (λ (c : ℕ). Sound (lenOf row) (narrowOf c)) g
     (sound-in (lenOf row) (numbersOf row) j t (omega (arith, r .few, length-numbers row e (r .few))))
@@ -112,8 +116,10 @@ and-true : (a : Bool) → (a && true) ≡ a
 and-true true = refl
 and-true false = refl
 
-module _ (row : List ℕ) (whole : length row ≡ 13) (few : countOf row ≤ 9) (b : ℕ → ℕ) (all : Bool) (t : Bool) (j : ℕ) (so-far : (t && allTaken (drop j (numbersOf row)) b) ≡ all) where
-  pub taken-more : (u : Bool) → j < countOf row → u ≡ (t && takes (codesOf (getD row (4 + j) 0)) (read (narrowOf (getD row (4 + j) 0)) b)) → (u && allTaken (drop (j + 1) (numbersOf row)) b) ≡ all
+module _ (row : List ℕ) (whole : length row ≡ 13) (few : countOf row ≤ 9) (b : ℕ → ℕ) (all : Bool) (t : Bool) (j : ℕ)
+    (so-far : (t && allTaken (drop j (numbersOf row)) b) ≡ all) where
+  pub taken-more : (u : Bool) → j < countOf row → u ≡ (t && takes (codesOf (getD row (4 + j) 0)) (read (narrowOf (getD row (4 + j) 0)) b))
+      → (u && allTaken (drop (j + 1) (numbersOf row)) b) ≡ all
   unfolding allTaken
   taken-more u h e =
       let c : ℕ = getD row (4 + j) 0 in
@@ -131,7 +137,8 @@ unfolding allTaken lacking reads narrowsOf
 taken-none n [] b t = refl
 taken-none n (c ∷ cs) b t =
     let v : ℕ = read (narrowOf c) b in
-    ap (λ (x : Bool). cond x (lacking n cs (reads (narrowsOf cs) b)) (min (narrowOf c .first) (lacking n cs (reads (narrowsOf cs) b)))) (is-true (takes (codesOf c) v) (both-left (takes (codesOf c) v) (allTaken cs b) t))
+    ap (λ (x : Bool). cond x (lacking n cs (reads (narrowsOf cs) b)) (min (narrowOf c .first) (lacking n cs (reads (narrowsOf cs) b))))
+    (is-true (takes (codesOf c) v) (both-left (takes (codesOf c) v) (allTaken cs b) t))
     ∙ taken-none n cs b (both-right (takes (codesOf c) v) (allTaken cs b) t)
   where
     is-true : (x : Bool) → T x → x ≡ true

@@ -1,7 +1,9 @@
+pub mod Apart
 pub mod Words
 pub mod Stray
 pub mod Fields
 pub mod Clean
 pub mod Seeking
 pub mod Returns
+pub mod Handed
 pub mod Outcome

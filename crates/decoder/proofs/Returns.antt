@@ -1,25 +1,30 @@
 -- What the returns of the decoder ask: each branch gives the specification's answer. Assumes nothing.
-use mathlib.Core.Path.{_≡_, refl, sym, ap, ap₂, _∙_}
+use mathlib.Core.Path.{_≡_, refl, sym, ap, ap₂, _∙_, subst}
 use mathlib.Core.Logic.{⊎-elim}
 use mathlib.Core.Bool.{Bool, true, false, cond}
 use mathlib.Core.List.{List, [], _++_}
 use Prim.Native.Nat.{ℕ, _+_, _-_, _≤_, _<_}
 use native.Mathlib.Numerals.{add-one}
 use native.Mathlib.Omega.{arith}
-use borrow.Author.Tests.{lt-ltb, le-ltb}
+use borrow.Author.Tests.{lt-ltb, le-ltb, ltb-true}
+use lib.Dec.{ltb}
 use lib.ListN.{length, getD, take, replicate}
 use lib.Seq.{take-at}
 use Rattle.frame.specs.Layout.{bytes}
 use Rattle.frame.proofs.OneField.{le-or-lt}
-use Rattle.table.specs.Table.{rows, rowAt, lenOf, countOf, numbersOf}
+use Rattle.table.specs.Table.{kinds, rows, rowAt, opOf, lenOf, countOf, numbersOf}
 use Rattle.table.specs.Laid.{find}
 use Rattle.table.specs.Narrowed.{opcode, argumentsIn, Ready}
 use Rattle.table.proofs.Cells.{length-numbers}
 use Rattle.table.proofs.Rows.{count, row-at, found-row}
-use Rattle.refusal.specs.declared.Refusal.the-variants.{ShortFrame, UnknownOpcode, WrongLength, StrayBit, UnknownCode}
+use Rattle.refusal.specs.declared.Refusal.the-variants.{ShortFrame, StrayBit, UnknownCode}
+use Rattle.decoder.specs.declared.Sought.{Sought}
+use Rattle.decoder.specs.declared.Sought.the-variants as seek
+use Rattle.decoder.specs.declared.Sought.the-variants.{Row}
 use Rattle.decoder.specs.declared.Answer.the-variants.{Kind}
 use Rattle.decoder.specs.declared.Decoded.{Decoded}
-use Rattle.decoder.specs.Decoding.{reading, refuses, strayAt, lacking, lackingAt, judged, known, sought, decode, decoded}
+use Rattle.decoder.specs.Decoding.{reading, refuses, strayAt, lacking, lackingAt, judged, known, sought, answered, decode, decoded}
+use Rattle.decoder.proofs.Apart.{wrong-row, unknown-row}
 use Rattle.decoder.proofs.Fields.{length-reads}
 
 -- ---- judge
@@ -46,7 +51,8 @@ module _ (r : List ℕ) (f : List ℕ) where
     unfolding judged
     judged-kind k h = simp (le-ltb (strayAt r f) (length f) clean, lacking-is, le-ltb q (length f) h)
 
-    pub decoded-kind : (k n : ℕ) → length f ≤ q → n ≡ countOf r → _≡_ {A = Decoded} (record { answer = Kind k; count = n; args = args }) (decoded (judged k r f))
+    pub decoded-kind : (k n : ℕ) → length f ≤ q → n ≡ countOf r → _≡_ {A = Decoded} (record { answer = Kind k; count = n; args = args })
+        (decoded (judged k r f))
     unfolding decoded
     decoded-kind k n h en =
         ap₂ (λ (m : ℕ) (v : List ℕ). record { answer = Kind k; count = m; args = v }) (en ∙ sym many)
@@ -59,59 +65,42 @@ pub decode-short : (f : List ℕ) → length f < 2 → decode f ≡ refuses Shor
 unfolding decode
 decode-short f h = simp (lt-ltb (length f) 2 h)
 
-module _ (f : List ℕ) (o i : ℕ) (eo : o ≡ opcode f) (ei : i ≡ sought o (length f)) where
-  abbrev placed : ℕ
-  placed = find rows (opcode f) (length f)
+-- a row that is sought is one of the table and has the opcode and the length
+pub record Found (o l i : ℕ) : Type 0 where
+  pub place : find rows o l ≡ i
+  pub row : i < kinds
+  pub has : (opOf (getD rows i []) ≡ o) × (lenOf (getD rows i []) ≡ l)
 
-  here : sought (opcode f) (length f) ≡ i
-  here = sym (ei ∙ ap (λ (x : ℕ). sought x (length f)) eo)
+pub sought-row : (o l i : ℕ) → sought o l ≡ Row i → Found o l i
+unfolding sought
+sought-row o l i e = by (ltb (find rows o l) kinds) (known rows o) refl e
+  where
+    by : (a b : Bool) → ltb (find rows o l) kinds ≡ a → cond a (Row (find rows o l)) (cond b seek.WrongLength seek.UnknownOpcode) ≡ Row i → Found o l i
+    by true b p z =
+        let q : find rows o l ≡ i = cc in
+        let h : find rows o l < kinds = ltb-true _ _ p in record {
+          place = q;
+          row = subst (λ (k : ℕ). k < kinds) q h;
+          has = subst (λ (k : ℕ). (opOf (getD rows k []) ≡ o) × (lenOf (getD rows k []) ≡ l)) q (found-row rows o l (omega (arith, count)));
+        }
+    by false true p z = absurd (wrong-row z)
+    by false false p z = absurd (unknown-row z)
 
-  found : placed < 39 → placed ≡ i
-  unfolding sought
-  found h = sym (simp (lt-ltb placed 39 h)) ∙ here
+module _ (f : List ℕ) (o : ℕ) (x : Sought) (eo : o ≡ opcode f) (ex : x ≡ sought o (length f)) where
+  pub decode-sought : 2 ≤ length f → answered f x ≡ decode f
+  unfolding decode
+  decode-sought two = ap (answered f) (ex ∙ ap (λ (k : ℕ). sought k (length f)) eo) ∙ sym (simp (le-ltb (length f) 2 two))
 
-  missed : 39 ≤ placed → cond (known rows (opcode f)) 39 40 ≡ i
-  unfolding sought
-  missed h = sym (simp (le-ltb placed 39 h)) ∙ here
+  module _ (i : ℕ) (e : x ≡ Row i) where
+    place : Found o (length f) i
+    place = sought-row o (length f) i (sym ex ∙ e)
 
-  place : i < 39 → placed ≡ i
-  place h = ⊎-elim (λ l. absurd (past (known rows (opcode f)) (missed l))) found (le-or-lt 39 placed)
-    where
-      past : (b : Bool) → cond b 39 40 ≡ i → ⊥
-      past true e = omega arith
-      past false e = omega arith
+    pub row-place : i < kinds
+    row-place = place .row
 
-  none : 39 ≤ i → 39 ≤ placed
-  none h = ⊎-elim (λ l. l) (λ l. absurd (omega (arith, found l))) (le-or-lt 39 placed)
-
-  module _ (h : i < 39) where
     pub row-length : lenOf (rowAt i) ≡ length f
-    row-length =
-        let l : placed < length rows = omega (arith, place h, count) in
-        ap (λ (r : List ℕ). lenOf r) (row-at i h) ∙ ap (λ (k : ℕ). lenOf (getD rows k [])) (sym (place h)) ∙ found-row rows (opcode f) (length f) l .1
+    row-length = ap (λ (r : List ℕ). lenOf r) (row-at i (place .row)) ∙ place .has .1
 
     pub decode-row : 2 ≤ length f → judged (i + 1) (rowAt i) f ≡ decode f
-    unfolding decode
-    decode-row two =
-        ap₂ (λ (r : List ℕ) (k : ℕ). judged k r f) (row-at i h) (add-one i) ∙ sym (simp (le-ltb (length f) 2 two, place h, lt-ltb i 39 h))
-
-  module _ (two : 2 ≤ length f) where
-    pub decode-known : i ≡ 39 → refuses WrongLength ≡ decode f
-    unfolding decode
-    decode-known e =
-        let p : 39 ≤ placed = none (omega arith) in
-        sym (simp (le-ltb (length f) 2 two, le-ltb placed 39 p, is-so (known rows (opcode f)) (missed p)))
-      where
-        is-so : (b : Bool) → cond b 39 40 ≡ i → b ≡ true
-        is-so true q = refl
-        is-so false q = absurd (omega arith)
-
-    pub decode-unknown : 39 ≤ i → (i ≡ 39 → ⊥) → refuses UnknownOpcode ≡ decode f
-    unfolding decode
-    decode-unknown h d =
-        let p : 39 ≤ placed = none h in
-        sym (simp (le-ltb (length f) 2 two, le-ltb placed 39 p, not-so (known rows (opcode f)) (missed p)))
-      where
-        not-so : (b : Bool) → cond b 39 40 ≡ i → b ≡ false
-        not-so true q = absurd (d (sym q))
-        not-so false q = refl
+    unfolding answered
+    decode-row two = ap₂ (λ (r : List ℕ) (k : ℕ). judged k r f) (row-at i (place .row)) (add-one i) ∙ ap (answered f) (sym e) ∙ decode-sought two

@@ -1,169 +1,238 @@
--- The way from opcode and length to the row: one test, computed over every opcode of the table's range and every length to 13, says that
--- the seats of the source lead where the search does. Assumes nothing.
-use mathlib.Core.Path.{_≡_, refl, sym, ap, _∙_, subst}
+-- The way from opcode and length to the row: the seat of an opcode leads where the search does. Assumes nothing.
+use mathlib.Core.Path.{_≡_, refl, sym, ap, ap₂, _∙_, subst}
 use mathlib.Core.Logic.{⊎-elim}
 use mathlib.Core.Bool.{Bool, true, false, cond, _&&_}
 use mathlib.Core.List.{List, [], _∷_}
-use Prim.Native.Nat.{ℕ, suc, _+_, _-_, _/_, _%_, _≤_, _<_, zero-le, suc-le-suc}
+use Prim.Native.Nat.{ℕ, zero, suc, _+_, _-_, _*_, _/_, _%_, _≤_, _<_, zero-le, suc-le-suc}
+use native.Mathlib.Nat.{add-suc, suc-add}
 use native.Mathlib.Omega.{arith}
-use borrow.Author.Tests.{eq-eqb, ne-eqb, le-ltb}
-use lib.Dec.{T, eqb, leb, ltb, eqb→eq, leb→le}
+use borrow.Author.Tests.{eq-eqb, ne-eqb, lt-ltb, le-ltb}
+use lib.Dec.{T, eqb, ltb, eqb→eq}
 use lib.ListN.{length, getD}
 use Rattle.frame.proofs.OneField.{le-or-lt}
-use Rattle.frame.proofs.Fields.{both-left, both-right}
-use Rattle.table.specs.Table.{rows, opOf, lenOf}
+use Rattle.table.specs.Table.{kinds, rows, opOf, lenOf}
 use Rattle.table.specs.Laid.{find}
 use Rattle.table.proofs.Below.{below, below-at}
-use Rattle.table.proofs.Rows.{count, row-laid, found-row}
+use Rattle.table.proofs.Rows.{count, row-laid, row-found, found-row}
+use Rattle.decoder.specs.declared.Sought.{Sought}
+use Rattle.decoder.specs.declared.Sought.the-variants.{Row, WrongLength, UnknownOpcode}
+use Rattle.decoder.specs.Seats.{lengthFor, seatFrom, seatOf}
 use Rattle.decoder.specs.Decoding.{known, sought}
 
--- the source's seats
-unfoldable pub seats : List (List ℕ)
-seats =
-    (0x1760 ∷ 0x1834 ∷ 0x1A45 ∷ 0 ∷ [])
-    ∷ (0 ∷ 0 ∷ 0 ∷ 0 ∷ [])
-    ∷ (0 ∷ 0 ∷ 0 ∷ 0 ∷ [])
-    ∷ (0x1C50 ∷ 0x1D50 ∷ 0 ∷ 0x1E30 ∷ [])
-    ∷ (0x1F90 ∷ 0x20A0 ∷ 0 ∷ 0 ∷ [])
-    ∷ (0 ∷ 0x2180 ∷ 0x2230 ∷ 0 ∷ [])
-    ∷ (0x2356 ∷ 0 ∷ 0x2530 ∷ 0x26A0 ∷ [])
-    ∷ (0 ∷ 0x0D34 ∷ 0 ∷ 0 ∷ [])
-    ∷ (0x0040 ∷ 0x0160 ∷ 0x0240 ∷ 0x0330 ∷ [])
-    ∷ (0 ∷ 0 ∷ 0x048C ∷ 0x0690 ∷ [])
-    ∷ (0x0720 ∷ 0x0820 ∷ 0x0920 ∷ 0x0AB0 ∷ [])
-    ∷ (0 ∷ 0x0B40 ∷ 0x0C80 ∷ 0 ∷ [])
-    ∷ (0 ∷ 0 ∷ 0 ∷ 0 ∷ [])
-    ∷ (0 ∷ 0 ∷ 0 ∷ 0 ∷ [])
-    ∷ (0 ∷ 0 ∷ 0 ∷ 0 ∷ [])
-    ∷ (0 ∷ 0 ∷ 0 ∷ 0 ∷ [])
-    ∷ (0x0FB0 ∷ 0x1090 ∷ 0x1140 ∷ 0x12A0 ∷ [])
-    ∷ (0x13B0 ∷ 0x1440 ∷ 0x1520 ∷ 0x1620 ∷ [])
-    ∷ []
-
-abbrev pub seatOf : ℕ → ℕ
-seatOf o = getD (getD seats (o / 4) []) (o % 4) 0
-
 -- what the code makes of a seat
-unfoldable pub seated : ℕ → ℕ → ℕ
-seated s l = cond (eqb s 0) 40 (cond (eqb (s / 16 % 16) l) (s / 256) (cond (eqb (s % 16) l) (s / 256 + 1) 39))
+unfoldable pub seated : ℕ → ℕ → Sought
+seated s l =
+    cond (eqb (s / 16 % 16) 0) UnknownOpcode (cond (eqb (s / 16 % 16) l) (Row (s / 256)) (cond (eqb (s % 16) l) (Row (s / 256 + 1)) WrongLength))
 
--- ---- lengths to 13, of opcodes of the range
+-- ---- opcodes of no row
 
-agrees : ℕ → ℕ → Bool
-agrees o l = eqb (seated (seatOf o) (2 + l)) (sought (512 + o) (2 + l))
+module _ (o : ℕ) where
+  seat-unknown : (i : ℕ) (rs : List (List ℕ)) → known rs o ≡ false → seatFrom i rs o ≡ 0
+  unfolding known seatFrom
+  seat-unknown i [] e = refl
+  seat-unknown i (r ∷ rs) e = go (eqb (opOf r) o) e (seat-unknown (suc i) rs)
+    where
+      go : (b : Bool) → cond b true (known rs o) ≡ false → (known rs o ≡ false → seatFrom (suc i) rs o ≡ 0)
+          → cond b (i * 256 + lenOf r * 16 + lengthFor o (getD rs 0 [])) (seatFrom (suc i) rs o) ≡ 0
+      go true z ih = absurd (subst T z tt)
+      go false z ih = ih z
 
-everywhere : T (below (λ o. below (agrees o) 12) 72)
-unfolding below agrees seated seats sought find known
+  unfound : (rs : List (List ℕ)) (l : ℕ) → known rs o ≡ false → length rs ≤ find rs o l
+  unfolding known find
+  unfound [] l e = zero-le
+  unfound (r ∷ rs) l e = go (eqb (opOf r) o) e (unfound rs l)
+    where
+      go : (b : Bool) → cond b true (known rs o) ≡ false → (known rs o ≡ false → length rs ≤ find rs o l)
+          → suc (length rs) ≤ cond (b && eqb (lenOf r) l) 0 (suc (find rs o l))
+      go true z ih = absurd (subst T z tt)
+      go false z ih = suc-le-suc (ih z)
+
+-- o is the opcode of none of the first n rows, as the last arm of a match over their opcodes has it: two rows' opcode stands there once
+abbrev pick : Bool → Type 0 → Type 0 → Type 0
+pick true A B = A
+pick false A B = B
+
+abbrev pub NoneOf : ℕ → ℕ → Type 0
+NoneOf zero o = Unit
+NoneOf (suc n) o =
+    pick (eqb (opOf (getD rows (suc n) [])) (opOf (getD rows n []))) (NoneOf n o) (NoneOf n o × (o ≡ opOf (getD rows n []) → ⊥))
+
+module _ (o : ℕ) where
+  none-to : (n : ℕ) → (o ≡ opOf (getD rows n []) → ⊥) → NoneOf n o → (i : ℕ) → i ≤ n → o ≡ opOf (getD rows i []) → ⊥
+  none-to zero d m i h e = let z : i ≡ 0 = omega arith in d (e ∙ ap (λ (k : ℕ). opOf (getD rows k [])) z)
+  none-to (suc n) d m i h e =
+      go (eqb (opOf (getD rows (suc n) [])) (opOf (getD rows n []))) refl m (none-to n)
+    where
+      go : (b : Bool) → eqb (opOf (getD rows (suc n) [])) (opOf (getD rows n [])) ≡ b → pick b (NoneOf n o) (NoneOf n o × (o ≡ opOf (getD rows n []) → ⊥))
+          → ((o ≡ opOf (getD rows n []) → ⊥) → NoneOf n o → (i : ℕ) → i ≤ n → o ≡ opOf (getD rows i []) → ⊥) → ⊥
+      go b q w ih = ⊎-elim here below′ (le-or-lt (suc n) i)
+        where
+          here : suc n ≤ i → ⊥
+          here l = let z : i ≡ suc n = omega arith in d (e ∙ ap (λ (k : ℕ). opOf (getD rows k [])) z)
+
+          below′ : i < suc n → ⊥
+          below′ l = lower b q w
+            where
+              lower : (b : Bool) → eqb (opOf (getD rows (suc n) [])) (opOf (getD rows n [])) ≡ b
+                  → pick b (NoneOf n o) (NoneOf n o × (o ≡ opOf (getD rows n []) → ⊥)) → ⊥
+              lower true p v = ih (λ x. d (x ∙ sym (eqb→eq _ _ (subst T (sym p) tt)))) v i (omega arith) e
+              lower false p v = ih (v .1) (v .0) i (omega arith) e
+
+  unknown-rows : (rs : List (List ℕ)) → ((i : ℕ) → i < length rs → o ≡ opOf (getD rs i []) → ⊥) → known rs o ≡ false
+  unfolding known
+  unknown-rows [] h = refl
+  unknown-rows (r ∷ rs) h =
+      ap (λ (b : Bool). cond b true (known rs o)) (ne-eqb (opOf r) o (λ e. h 0 (suc-le-suc zero-le) (sym e)))
+      ∙ unknown-rows rs (λ i l. h (suc i) (suc-le-suc l))
+
+  pub seat-none : NoneOf kinds o → 0 ≡ seatOf o
+  seat-none n =
+      sym (seat-unknown o 0 rows (unknown-rows rows (λ i l. none-to (kinds - 1) (n .1) (n .0) i (omega (arith, count)))))
+
+-- ---- opcodes of a row
+
+-- the first row of an opcode, and its seat
+record First (i : ℕ) (rs : List (List ℕ)) (o : ℕ) : Type 0 where
+  at : ℕ
+  row : at < length rs
+  has : opOf (getD rs at []) ≡ o
+  seat : seatFrom i rs o ≡ (i + at) * 256 + lenOf (getD rs at []) * 16 + lengthFor o (getD rs (suc at) [])
+
+first : (i : ℕ) (rs : List (List ℕ)) (o : ℕ) → known rs o ≡ true → First i rs o
+unfolding known seatFrom
+first i [] o e = absurd (subst T (sym e) tt)
+first i (r ∷ rs) o e = go (eqb (opOf r) o) refl e (first (suc i) rs o)
+  where
+    go : (b : Bool) → eqb (opOf r) o ≡ b → cond b true (known rs o) ≡ true → (known rs o ≡ true → First (suc i) rs o) → First i (r ∷ rs) o
+    go true q z ih =
+        let e : i ≡ i + 0 = omega arith in record {
+          at = 0;
+          row = suc-le-suc zero-le;
+          has = eqb→eq (opOf r) o (subst T (sym q) tt);
+          seat = ap (λ (b : Bool). cond b (i * 256 + lenOf r * 16 + lengthFor o (getD rs 0 [])) (seatFrom (suc i) rs o)) q
+              ∙ ap (λ (k : ℕ). k * 256 + lenOf r * 16 + lengthFor o (getD rs 0 [])) e;
+        }
+    go false q z ih =
+        let f : First (suc i) rs o = ih z in record {
+          at = suc (f .at);
+          row = suc-le-suc (f .row);
+          has = f .has;
+          seat = ap (λ (b : Bool). cond b (i * 256 + lenOf r * 16 + lengthFor o (getD rs 0 [])) (seatFrom (suc i) rs o)) q ∙ f .seat
+              ∙ ap (λ (k : ℕ). k * 256 + lenOf (getD rs (f .at) []) * 16 + lengthFor o (getD rs (suc (f .at)) []))
+              (suc-add i (f .at) ∙ sym (add-suc i (f .at)));
+        }
+
+-- each row is where the seat of its opcode leads, for its length
+isRow : ℕ → Sought → Bool
+isRow i (Row j) = eqb j i
+isRow i WrongLength = false
+isRow i UnknownOpcode = false
+
+row-is : (i : ℕ) (x : Sought) → T (isRow i x) → x ≡ Row i
+unfolding isRow
+row-is i (Row j) t = ap Row (eqb→eq j i t)
+row-is i WrongLength t = absurd t
+row-is i UnknownOpcode t = absurd t
+
+leads : ℕ → Bool
+leads i = isRow i (seated (seatOf (opOf (getD rows i []))) (lenOf (getD rows i [])))
+
+everywhere : T (below leads kinds)
+unfolding below leads isRow seated seatFrom
 everywhere = tt
 
-short : (o l : ℕ) → o < 72 → l < 12 → seated (seatOf o) (2 + l) ≡ sought (512 + o) (2 + l)
-unfolding agrees
-short o l h k = eqb→eq _ _ (below-at (agrees o) 12 l (below-at (λ (i : ℕ). below (agrees i) 12) 72 o everywhere h) k)
+-- ---- every opcode, and every length from 2 on
 
--- ---- longer frames
+module _ (o l : ℕ) (two : 2 ≤ l) where
+  row-seated : find rows o l < kinds → seated (seatOf o) l ≡ Row (find rows o l)
+  unfolding leads
+  row-seated h =
+      let i : ℕ = find rows o l in
+      let g = found-row rows o l (omega (arith, count)) in
+      ap₂ (λ (x y : ℕ). seated (seatOf x) y) (sym (g .0)) (sym (g .1)) ∙ row-is i _ (below-at leads kinds i everywhere h)
 
-lengths : ℕ → Bool
-lengths o = leb (seatOf o / 16 % 16) 12 && leb (seatOf o % 16) 12
+  module _ (far : kinds ≤ find rows o l) where
+    -- no row has the opcode and the length
+    no-row : (i : ℕ) → i < kinds → opOf (getD rows i []) ≡ o → lenOf (getD rows i []) ≡ l → ⊥
+    no-row i h p q = let e : find rows o l ≡ i = ap₂ (find rows) (sym p) (sym q) ∙ row-found i h in omega arith
 
-all-short : T (below lengths 72)
-unfolding below lengths seats
-all-short = tt
+    -- the row after the last has no opcode and no length
+    next-short : (i : ℕ) → i < kinds → (lengthFor o (getD rows (suc i) []) ≤ 12) × (lengthFor o (getD rows (suc i) []) ≡ l → ⊥)
+    next-short i h = ⊎-elim last inner (le-or-lt kinds (suc i))
+      where
+        inner : suc i < kinds → (lengthFor o (getD rows (suc i) []) ≤ 12) × (lengthFor o (getD rows (suc i) []) ≡ l → ⊥)
+        inner s = by (eqb (opOf (getD rows (suc i) [])) o) refl
+          where
+            by : (b : Bool) → eqb (opOf (getD rows (suc i) [])) o ≡ b
+                → (cond b (lenOf (getD rows (suc i) [])) 0 ≤ 12) × (cond b (lenOf (getD rows (suc i) [])) 0 ≡ l → ⊥)
+            by true q = (row-laid (suc i) s .most, no-row (suc i) s (eqb→eq _ _ (subst T (sym q) tt)))
+            by false q = (zero-le, λ e. omega arith)
 
-seated-long : (s l : ℕ) → s / 16 % 16 ≤ 12 → s % 16 ≤ 12 → 13 ≤ l → seated s l ≡ cond (eqb s 0) 40 39
-unfolding seated
-seated-long s l h k g =
-    let d : s / 16 % 16 ≡ l → ⊥ = (λ e. omega arith) in
-    let f : s % 16 ≡ l → ⊥ = (λ e. omega arith) in
-    simp (ne-eqb (s / 16 % 16) l d, ne-eqb (s % 16) l f)
+        last : kinds ≤ suc i → (lengthFor o (getD rows (suc i) []) ≤ 12) × (lengthFor o (getD rows (suc i) []) ≡ l → ⊥)
+        last s =
+            let e : suc i ≡ kinds = omega arith in
+            subst (λ (k : ℕ). (lengthFor o (getD rows k []) ≤ 12) × (lengthFor o (getD rows k []) ≡ l → ⊥)) (sym e) (by (eqb 0 o))
+          where
+            by : (b : Bool) → (cond b 0 0 ≤ 12) × (cond b 0 0 ≡ l → ⊥)
+            by true = (zero-le, λ e. omega arith)
+            by false = (zero-le, λ e. omega arith)
 
-sought-long : (o l : ℕ) → 13 ≤ l → sought o l ≡ cond (known rows o) 39 40
-unfolding sought
-sought-long o l h =
-    let far : 39 ≤ find rows o l = ⊎-elim (λ z. z) (λ z. let k : find rows o l < length rows = omega (arith, count) in omega (arith, found-row rows o l k .1, row-laid (find rows o l) z .most)) (le-or-lt 39 (find rows o l)) in
-    simp (le-ltb (find rows o l) 39 far)
-
--- every length from 2 on
-pub seat-is : (o l : ℕ) → 512 ≤ o → o ≤ 583 → 2 ≤ l → seated (seatOf (o - 512)) l ≡ sought o l
-unfolding lengths
-seat-is o l a b two = subst (λ (x : ℕ). seated (seatOf (o - 512)) l ≡ sought x l) e (⊎-elim far near (le-or-lt 14 l))
-  where
-    e : 512 + (o - 512) ≡ o
-    e = omega arith
-
-    i : o - 512 < 72
-    i = omega arith
-
-    t : T (leb (seatOf (o - 512) / 16 % 16) 12 && leb (seatOf (o - 512) % 16) 12)
-    t = below-at lengths 72 (o - 512) all-short i
-
-    long : (k : ℕ) → 13 ≤ k → seated (seatOf (o - 512)) k ≡ cond (eqb (seatOf (o - 512)) 0) 40 39
-    long k h =
-        seated-long (seatOf (o - 512)) k (leb→le _ _ (both-left (leb (seatOf (o - 512) / 16 % 16) 12) (leb (seatOf (o - 512) % 16) 12) t))
-        (leb→le _ _ (both-right (leb (seatOf (o - 512) / 16 % 16) 12) (leb (seatOf (o - 512) % 16) 12) t)) h
-
-    far : 14 ≤ l → seated (seatOf (o - 512)) l ≡ sought (512 + (o - 512)) l
-    far h =
-        long l (omega arith) ∙ sym (long 13 (omega arith)) ∙ short (o - 512) 11 i (omega arith) ∙ sought-long (512 + (o - 512)) 13 (omega arith)
-        ∙ sym (sought-long (512 + (o - 512)) l (omega arith))
-
-    near : l < 14 → seated (seatOf (o - 512)) l ≡ sought (512 + (o - 512)) l
-    near h =
-        let q : 2 + (l - 2) ≡ l = omega arith in
-        subst (λ (x : ℕ). seated (seatOf (o - 512)) x ≡ sought (512 + (o - 512)) x) q (short (o - 512) (l - 2) i (omega arith))
-
--- each answer of the code
-module _ (o l s : ℕ) (a : 512 ≤ o) (b : o ≤ 583) (two : 2 ≤ l) (es : s ≡ seatOf (o - 512)) where
-  whole : seated s l ≡ sought o l
-  whole = ap (λ (x : ℕ). seated x l) es ∙ seat-is o l a b two
-
-  pub seat-empty : s ≡ 0 → 40 ≡ sought o l
-  unfolding seated
-  seat-empty e = sym (simp (eq-eqb s 0 e)) ∙ whole
-
-  module _ (some : s ≡ 0 → ⊥) where
-    pub seat-first : s / 16 % 16 ≡ l → s / 256 ≡ sought o l
+    wrong-seated : known rows o ≡ true → seated (seatOf o) l ≡ WrongLength
     unfolding seated
-    seat-first e = sym (simp (ne-eqb s 0 some, eq-eqb (s / 16 % 16) l e)) ∙ whole
+    wrong-seated k =
+        let f : First 0 rows o = first 0 rows o k in
+        let h : f .at < kinds = omega (arith, f .row, count) in
+        let r = row-laid (f .at) h in
+        let n = next-short (f .at) h in
+        let a : ℕ = lenOf (getD rows (f .at) []) in
+        let b : ℕ = lengthFor o (getD rows (suc (f .at)) []) in
+        let s : ℕ = seatOf o in
+        let e : s ≡ (0 + f .at) * 256 + a * 16 + b = f .seat in
+        let p : s / 16 % 16 ≡ a = omega (arith, r .most, n .0) in
+        let q : s % 16 ≡ b = omega (arith, n .0) in
+        let some : a ≡ 0 → ⊥ = (λ z. omega (arith, r .least)) in
+        simp (p, q, ne-eqb a 0 some, ne-eqb a l (no-row (f .at) h (f .has)), ne-eqb b l (n .1))
 
-    module _ (other : s / 16 % 16 ≡ l → ⊥) where
-      pub seat-second : s % 16 ≡ l → s / 256 + 1 ≡ sought o l
+    unknown-seated : known rows o ≡ false → seated (seatOf o) l ≡ UnknownOpcode
+    unfolding seated
+    unknown-seated k = ap (λ (s : ℕ). seated s l) (seat-unknown o 0 rows k)
+
+  -- the seat leads where the search does
+  pub seat-is : seated (seatOf o) l ≡ sought o l
+  unfolding sought
+  seat-is = ⊎-elim missed found (le-or-lt kinds (find rows o l))
+    where
+      found : find rows o l < kinds → seated (seatOf o) l ≡ cond (ltb (find rows o l) kinds) (Row (find rows o l))
+          (cond (known rows o) WrongLength UnknownOpcode)
+      found h = row-seated h ∙ sym (simp (lt-ltb (find rows o l) kinds h))
+
+      missed : kinds ≤ find rows o l → seated (seatOf o) l ≡ cond (ltb (find rows o l) kinds) (Row (find rows o l))
+          (cond (known rows o) WrongLength UnknownOpcode)
+      missed h = by (known rows o) refl ∙ sym (simp (le-ltb (find rows o l) kinds h))
+        where
+          by : (b : Bool) → known rows o ≡ b → seated (seatOf o) l ≡ cond (known rows o) WrongLength UnknownOpcode
+          by true q = wrong-seated h q ∙ sym (ap (λ (b : Bool). cond b WrongLength UnknownOpcode) q)
+          by false q = unknown-seated h q ∙ sym (ap (λ (b : Bool). cond b WrongLength UnknownOpcode) q)
+
+  -- each answer of the code
+  module _ (s : ℕ) (es : s ≡ seatOf o) where
+    whole : seated s l ≡ sought o l
+    whole = ap (λ (x : ℕ). seated x l) es ∙ seat-is
+
+    pub seat-empty : s / 16 % 16 ≡ 0 → UnknownOpcode ≡ sought o l
+    unfolding seated
+    seat-empty e = sym (simp (eq-eqb (s / 16 % 16) 0 e)) ∙ whole
+
+    module _ (some : s / 16 % 16 ≡ 0 → ⊥) where
+      pub seat-first : s / 16 % 16 ≡ l → Row (s / 256) ≡ sought o l
       unfolding seated
-      seat-second e = sym (simp (ne-eqb s 0 some, ne-eqb (s / 16 % 16) l other, eq-eqb (s % 16) l e)) ∙ whole
+      seat-first e = sym (simp (ne-eqb (s / 16 % 16) 0 some, eq-eqb (s / 16 % 16) l e)) ∙ whole
 
-      pub seat-other : (s % 16 ≡ l → ⊥) → 39 ≡ sought o l
-      unfolding seated
-      seat-other d = sym (simp (ne-eqb s 0 some, ne-eqb (s / 16 % 16) l other, ne-eqb (s % 16) l d)) ∙ whole
+      module _ (other : s / 16 % 16 ≡ l → ⊥) where
+        pub seat-second : s % 16 ≡ l → Row (s / 256 + 1) ≡ sought o l
+        unfolding seated
+        seat-second e = sym (simp (ne-eqb (s / 16 % 16) 0 some, ne-eqb (s / 16 % 16) l other, eq-eqb (s % 16) l e)) ∙ whole
 
--- ---- opcodes outside the range
-
-inRange : List (List ℕ) → Bool
-inRange [] = true
-inRange (r ∷ rs) = (leb 512 (opOf r) && leb (opOf r) 583) && inRange rs
-
-all-in : T (inRange rows)
-unfolding inRange
-all-in = tt
-
-unknown : (rs : List (List ℕ)) (o : ℕ) → T (inRange rs) → (512 ≤ o → o ≤ 583 → ⊥) → known rs o ≡ false
-unfolding inRange known
-unknown [] o t h = refl
-unknown (r ∷ rs) o t h =
-    let f = both-left (leb 512 (opOf r) && leb (opOf r) 583) (inRange rs) t in
-    let d : opOf r ≡ o → ⊥ = (λ e. h (subst (λ (x : ℕ). 512 ≤ x) e (leb→le _ _ (both-left (leb 512 (opOf r)) (leb (opOf r) 583) f))) (subst (λ (x : ℕ). x ≤ 583) e (leb→le _ _ (both-right (leb 512 (opOf r)) (leb (opOf r) 583) f)))) in
-    ap (λ (b : Bool). cond b true (known rs o)) (ne-eqb (opOf r) o d) ∙ unknown rs o (both-right (leb 512 (opOf r) && leb (opOf r) 583) (inRange rs) t) h
-
-unfound : (rs : List (List ℕ)) (o l : ℕ) → known rs o ≡ false → length rs ≤ find rs o l
-unfolding known find
-unfound [] o l e = zero-le
-unfound (r ∷ rs) o l e = go (eqb (opOf r) o) e (unfound rs o l)
-  where
-    go : (b : Bool) → cond b true (known rs o) ≡ false → (known rs o ≡ false → length rs ≤ find rs o l) → suc (length rs) ≤ cond (b && eqb (lenOf r) l) 0 (suc (find rs o l))
-    go true z ih = absurd (subst T z tt)
-    go false z ih = suc-le-suc (ih z)
-
-pub seat-none : (o l : ℕ) → (512 ≤ o → o ≤ 583 → ⊥) → 40 ≡ sought o l
-unfolding sought
-seat-none o l h =
-    let k : known rows o ≡ false = unknown rows o all-in h in
-    let f : 39 ≤ find rows o l = omega (arith, unfound rows o l k, count) in
-    sym (simp (le-ltb (find rows o l) 39 f, k))
+        pub seat-other : (s % 16 ≡ l → ⊥) → WrongLength ≡ sought o l
+        unfolding seated
+        seat-other d = sym (simp (ne-eqb (s / 16 % 16) 0 some, ne-eqb (s / 16 % 16) l other, ne-eqb (s % 16) l d)) ∙ whole

@@ -37,7 +37,8 @@ stray-past ms f i h = ap (stray (drop i ms)) (drop-of-length-le f h) ∙ none-le
 -- ---- no stray bit
 
 -- a frame without one is clean
-stray-none : (i : ℕ) (m : ℕ → ℕ) (f : List ℕ) → length f ≤ stray (tabFrom i (length f) m) f → (j : ℕ) → j < length f → bitAnd (bytes f j) (m (i + j)) ≡ bytes f j
+stray-none : (i : ℕ) (m : ℕ → ℕ) (f : List ℕ) → length f ≤ stray (tabFrom i (length f) m) f → (j : ℕ) → j < length f
+    → bitAnd (bytes f j) (m (i + j)) ≡ bytes f j
 unfolding stray tabFrom
 stray-none i m [] h j l = absurd (not-suc-le-zero l)
 stray-none i m (b ∷ bs) h j l = go (eqb (bitAnd b (m i)) b) refl h (stray-none (suc i) m bs) j l
@@ -50,7 +51,8 @@ stray-none i m (b ∷ bs) h j l = go (eqb (bitAnd b (m i)) b) refl h (stray-none
     go false q z ih k l′ = absurd (not-suc-le-zero z)
 
 -- and the other way round
-clean-none : (i : ℕ) (m : ℕ → ℕ) (f : List ℕ) → ((j : ℕ) → j < length f → bitAnd (bytes f j) (m (i + j)) ≡ bytes f j) → stray (tabFrom i (length f) m) f ≡ length f
+clean-none : (i : ℕ) (m : ℕ → ℕ) (f : List ℕ) → ((j : ℕ) → j < length f → bitAnd (bytes f j) (m (i + j)) ≡ bytes f j)
+    → stray (tabFrom i (length f) m) f ≡ length f
 unfolding stray tabFrom
 clean-none i m [] h = refl
 clean-none i m (b ∷ bs) h =

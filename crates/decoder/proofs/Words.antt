@@ -5,7 +5,8 @@ use mathlib.Core.Logic.{⊎-elim}
 use mathlib.Core.Bool.{Bool, true, false, cond}
 use mathlib.Core.List.{List, [], _∷_}
 use Prim.Native.Nat.{ℕ, zero, suc, _+_, _-_, _*_, _/_, _%_, _^_, _≤_, _<_, min}
-use native.Mathlib.Nat.{mod-one, div-one, mod-eq-of-lt, zero-add, add-zero, add-suc, add-comm, add-assoc, mul-assoc, add-mul-mod-self-right, lt-of-lt-of-le, eq-or-lt-of-le, le-of-suc-le-suc, not-suc-le-zero}
+use native.Mathlib.Nat.{mod-one, div-one, mod-eq-of-lt, zero-add, add-zero, add-suc, add-comm, add-assoc, mul-assoc, add-mul-mod-self-right, lt-of-lt-of-le}
+use native.Mathlib.Nat.{eq-or-lt-of-le, le-of-suc-le-suc, not-suc-le-zero}
 use native.Mathlib.Omega.{arith}
 use borrow.Author.Tests.{le-leb, lt-leb, lt-ltb, le-ltb}
 use lib.Pow.{pow-pos, pow-mono, pow-add, shl-lt, ones-lt, shr-shr, high, low, field, mod-pow-add, mod-mod-pow}
@@ -96,7 +97,8 @@ last-byte x y m lo h =
     let e : 8 ≡ (8 - t) + t = omega arith in
     sym (field (x * 256 + y) m lo)
     ∙ ap (λ (z : ℕ). z / 2 ^ lo)
-    (ap (λ (z : ℕ). z % 2 ^ t) (add-comm (x * 256) y ∙ ap (λ (z : ℕ). y + x * z) (ap (λ (k : ℕ). 2 ^ k) e ∙ pow-add 2 (8 - t) t) ∙ ap (λ (z : ℕ). y + z) (sym (mul-assoc x (2 ^ (8 - t)) (2 ^ t))))
+    (ap (λ (z : ℕ). z % 2 ^ t) (add-comm (x * 256) y ∙ ap (λ (z : ℕ). y + x * z) (ap (λ (k : ℕ). 2 ^ k) e ∙ pow-add 2 (8 - t) t)
+    ∙ ap (λ (z : ℕ). y + z) (sym (mul-assoc x (2 ^ (8 - t)) (2 ^ t))))
     ∙ add-mul-mod-self-right y (x * 2 ^ (8 - t)) (2 ^ t))
     ∙ field y m lo
 
@@ -116,7 +118,8 @@ module _ (f : Field) (s : Sound 16 f) (high-first : f .le ≡ false) (b : ℕ �
       ∙ sym (last-byte (bigEnd b p) (b p) (bits f k) (f .lo) w)
       ∙ ap (λ (x : ℕ). x / 2 ^ f .lo % 2 ^ bits f k) (sym (drop-bytes b small (suc p) k) ∙ ap (λ (n : ℕ). bigEnd b n / 2 ^ (8 * k)) (sym e))
       ∙ ap (λ (x : ℕ). x % 2 ^ bits f k)
-      (shr-shr (bigEnd b (f .first + size f)) (8 * k) (f .lo) ∙ ap (λ (n : ℕ). bigEnd b (f .first + size f) / 2 ^ n) (sym q) ∙ sym (shr-shr (bigEnd b (f .first + size f)) (f .lo) (8 * k)))
+      (shr-shr (bigEnd b (f .first + size f)) (8 * k) (f .lo) ∙ ap (λ (n : ℕ). bigEnd b (f .first + size f) / 2 ^ n) (sym q)
+      ∙ sym (shr-shr (bigEnd b (f .first + size f)) (f .lo) (8 * k)))
 
   readTo-is : (m : ℕ) → m ≤ size f → readTo f b m ≡ v % 2 ^ top f m
   unfolding readTo
@@ -202,7 +205,8 @@ module _ (b m : ℕ → ℕ) (small : (i : ℕ) → b i < 256) (masks : (i : ℕ
           back j =
               let q : n - 8 + (i - (n - 8)) ≡ i = omega arith in
               subst (λ (x : ℕ). bitAnd (b x) (m x) ≡ b x) q
-              (under-mask (from (n - 8) b) (from (n - 8) m) (λ x. small (n - 8 + x)) (λ x. masks (n - 8 + x)) 8 (simp (le-leb 8 n k) at l) (i - (n - 8)) (omega arith))
+              (under-mask (from (n - 8) b) (from (n - 8) m) (λ x. small (n - 8 + x)) (λ x. masks (n - 8 + x)) 8 (simp (le-leb 8 n k) at l) (i - (n - 8))
+              (omega arith))
 
           front : i < n - 8 → bitAnd (b i) (m i) ≡ b i
           front j = let g : 8 < n = omega arith in under-mask b m small masks 8 (simp (lt-ltb 8 n g) at e) i (omega arith)
@@ -218,7 +222,8 @@ module _ (b m : ℕ → ℕ) (small : (i : ℕ) → b i < 256) (masks : (i : ℕ
     pub clean-last : bitAnd (lastWord n b) (lastWord n m) ≡ lastWord n b
     unfolding lastWord
     clean-last = ⊎-elim
-        (λ l. simp (le-leb 8 n l) (and-words (from (n - 8) b) (from (n - 8) m) (λ i. small (n - 8 + i)) (λ i. masks (n - 8 + i)) 8 ∙ bigEnd-ext (λ i. bitAnd (b (n - 8 + i)) (m (n - 8 + i))) (from (n - 8) b) 8 (λ i h. clean (n - 8 + i) (omega arith))))
+        (λ l. simp (le-leb 8 n l) (and-words (from (n - 8) b) (from (n - 8) m) (λ i. small (n - 8 + i)) (λ i. masks (n - 8 + i)) 8
+        ∙ bigEnd-ext (λ i. bitAnd (b (n - 8 + i)) (m (n - 8 + i))) (from (n - 8) b) 8 (λ i h. clean (n - 8 + i) (omega arith))))
         (λ l. simp (lt-leb 8 n l) (and-words b m small masks n ∙ bigEnd-ext (λ i. bitAnd (b i) (m i)) b n clean)) (le-or-lt 8 n)
 
 -- a mask is a byte
@@ -237,4 +242,5 @@ pub masks-lt : (n : ℕ) (fs : List Field) (i : ℕ) → T (soundAll n fs) → m
 unfolding soundAll maskOf
 masks-lt n [] i t = omega arith
 masks-lt n (f ∷ fs) i t =
-    or-lt 8 (mask f i) (maskOf fs i) (mask-lt n f i (sound-is n f (both-left (sound n f) (soundAll n fs) t))) (masks-lt n fs i (both-right (sound n f) (soundAll n fs) t))
+    or-lt 8 (mask f i) (maskOf fs i) (mask-lt n f i (sound-is n f (both-left (sound n f) (soundAll n fs) t)))
+    (masks-lt n fs i (both-right (sound n f) (soundAll n fs) t))

@@ -1,4 +1,4 @@
--- What the decoder answers: a frame's kind with its arguments, or the refusal with its place. The quotations are document 01's.
+-- What the decoder answers: a frame's kind with its arguments, or the refusal with its place (REFERENCE, "Decoder", "Refusals").
 -- Assumes nothing.
 use Prim.Native.Nat.{ℕ, suc, _-_, min}
 use mathlib.Core.Bool.{Bool, true, false, cond}
@@ -9,11 +9,14 @@ use lib.ListN.{getD, replicate, length}
 use Rattle.frame.specs.Layout.{tab, maskOf}
 use Rattle.table.specs.Number.{narrowOf, codesOf}
 use Rattle.table.specs.Codes.{takes}
-use Rattle.table.specs.Table.{rows, opOf, numbersOf}
+use Rattle.table.specs.Table.{kinds, rows, opOf, numbersOf}
 use Rattle.table.specs.Laid.{find}
 use Rattle.refusal.specs.declared.Refusal.{Refusal}
 use Rattle.refusal.specs.declared.Refusal.the-variants.{ShortFrame, UnknownOpcode, WrongLength, StrayBit, UnknownCode}
 use Rattle.table.specs.Narrowed.{fieldsOf, opcode, argumentsIn}
+use Rattle.decoder.specs.declared.Sought.{Sought}
+use Rattle.decoder.specs.declared.Sought.the-variants.{Row}
+use Rattle.decoder.specs.declared.Sought.the-variants as seek
 use Rattle.decoder.specs.declared.Answer.the-variants.{Kind, Refused}
 use Rattle.decoder.specs.declared.Decoded.{Decoded}
 
@@ -23,17 +26,17 @@ pub data Reading : Type 0 where
 
 -- ---- the two places
 
--- The lowest byte of the frame with a bit that its mask lacks, or the number of bytes. "A refusal carries a place: 4 and 5 the lowest such byte"
+-- the lowest byte of the frame with a bit that its mask lacks, or the number of bytes
 unfoldable pub stray : List ℕ → List ℕ → ℕ
 stray ms [] = 0
 stray [] (b ∷ bs) = 0
 stray (m ∷ ms) (b ∷ bs) = cond (eqb (bitAnd b m) b) (suc (stray ms bs)) 0
 
--- what a field that holds v makes of the lowest byte so far: its first byte, where v is "a code its enum lacks"
+-- what a field that holds v makes of the lowest byte so far: its first byte, where it does not take v
 abbrev pub lower : ℕ → ℕ → ℕ → ℕ
 lower c v low = cond (takes (codesOf c) v) low (min (narrowOf c .first) low)
 
--- the lowest byte, below n, of a field that holds a code its enum lacks, or n
+-- the lowest byte, below n, at which a field starts that does not take what it holds, or n
 unfoldable pub lacking : ℕ → List ℕ → List ℕ → ℕ
 lacking n [] vs = n
 lacking n (c ∷ cs) [] = n
@@ -41,11 +44,11 @@ lacking n (c ∷ cs) (v ∷ vs) = lower c v (lacking n cs vs)
 
 -- ---- the answer
 
--- "a bit that no field holds is set"
+-- the lowest byte with a bit that no field of the row holds
 abbrev pub strayAt : List ℕ → List ℕ → ℕ
 strayAt r f = stray (tab (length f) (maskOf (fieldsOf r))) f
 
--- "a field holds a code its enum lacks"
+-- the lowest byte of a field that does not take what it holds
 abbrev pub lackingAt : List ℕ → List ℕ → ℕ
 lackingAt r f = lacking (length f) (numbersOf r) (argumentsIn r f)
 
@@ -53,7 +56,7 @@ lackingAt r f = lacking (length f) (numbersOf r) (argumentsIn r f)
 abbrev pub refusedAt : (ℕ → Refusal) → ℕ → List ℕ → Reading → Reading
 refusedAt why p f rest = cond (ltb p (length f)) (refuses (why p)) rest
 
--- a frame with the opcode and the length of the row r; every stray bit comes before any code
+-- a frame with the opcode and the length of the row r; a stray bit anywhere is told before any code
 unfoldable pub judged : ℕ → List ℕ → List ℕ → Reading
 judged kind r f = refusedAt StrayBit (strayAt r f) f (refusedAt UnknownCode (lackingAt r f) f (reading kind (argumentsIn r f)))
 
@@ -62,17 +65,20 @@ unfoldable pub known : List (List ℕ) → ℕ → Bool
 known [] op = false
 known (r ∷ rs) op = cond (eqb (opOf r) op) true (known rs op)
 
--- the place of the row that has the opcode and the length; 39 where only the opcode is in the table, and 40 where it is not
-unfoldable pub sought : ℕ → ℕ → ℕ
-sought op len = cond (ltb (find rows op len) 39) (find rows op len) (cond (known rows op) 39 40)
+-- the row that has the opcode and the length, and else whether any row has the opcode (REFERENCE, "Decoder")
+unfoldable pub sought : ℕ → ℕ → Sought
+sought op len =
+    cond (ltb (find rows op len) kinds) (Row (find rows op len)) (cond (known rows op) seek.WrongLength seek.UnknownOpcode)
 
--- "frame under 2 bytes"; "A command is known by opcode and length together"; "length not one of that opcode's"; "opcode not in the table"
+-- what a frame says for which such a row was sought
+unfoldable pub answered : List ℕ → Sought → Reading
+answered f (Row i) = judged (suc i) (getD rows i []) f
+answered f seek.WrongLength = refuses WrongLength
+answered f seek.UnknownOpcode = refuses UnknownOpcode
+
+-- a frame is known by opcode and length together; one of under two bytes has no opcode (REFERENCE, "Decoder", "Refusals")
 unfoldable pub decode : List ℕ → Reading
-decode f =
-    cond (ltb (length f) 2) (refuses ShortFrame)
-    (cond (ltb (find rows (opcode f) (length f)) 39)
-    (judged (suc (find rows (opcode f) (length f))) (getD rows (find rows (opcode f) (length f)) []) f)
-    (cond (known rows (opcode f)) (refuses WrongLength) (refuses UnknownOpcode)))
+decode f = cond (ltb (length f) 2) (refuses ShortFrame) (answered f (sought (opcode f) (length f)))
 
 -- ---- as the code hands it over: nine arguments, those that the kind does not have 0
 

@@ -3,16 +3,16 @@
 use Prim.Native.Nat.{ℕ, zero, suc, _+_, _-_, _*_, _/_, _%_, _^_}
 use mathlib.Core.Path.{_≡_}
 use mathlib.Core.Bool.{Bool, true, cond, _&&_}
-use mathlib.Core.List.{List, [], _∷_}
+use mathlib.Core.List.{List, [], _∷_, _++_}
 use lib.Bits.{bitAnd}
 use lib.Dec.{eqb, leb, ltb}
-use lib.ListN.{length, getD}
+use lib.ListN.{length, getD, replicate}
 use Rattle.frame.specs.Field.{read}
 use Rattle.frame.specs.Layout.{bytes, maskOf}
 use Rattle.table.specs.Number.{narrowOf, codesOf}
 use Rattle.table.specs.Codes.{takes}
-use Rattle.table.specs.Table.{lenOf}
-use Rattle.table.specs.Narrowed.{fieldsOf}
+use Rattle.table.specs.Table.{lenOf, countOf}
+use Rattle.table.specs.Narrowed.{fieldsOf, argumentsIn}
 
 -- the number of the first n bytes, high byte first
 unfoldable pub bigEnd : (ℕ → ℕ) → ℕ → ℕ
@@ -52,3 +52,7 @@ pub record InWords (first last : ℕ) (f : List ℕ) : Type 0 where
 unfoldable pub allTaken : List ℕ → (ℕ → ℕ) → Bool
 allTaken [] b = true
 allTaken (c ∷ cs) b = takes (codesOf c) (read (narrowOf c) b) && allTaken cs b
+
+-- the arguments that a frame holds, and zeros up to nine
+abbrev pub nineIn : List ℕ → List ℕ → List ℕ
+nineIn r f = argumentsIn r f ++ replicate (9 - countOf r) 0

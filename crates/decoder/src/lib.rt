@@ -2,17 +2,18 @@
 // The laws that tie it to the builders are codec's (proofs/Laws.antt).
 ghost use mathlib.Core.Path.{_≡_};
 ghost use mathlib.Core.Bool.{true, _&&_};
-ghost use mathlib.Core.List.{_++_};
-ghost use Prim.Native.Nat.{_+_, _-_, _/_, _%_, _^_, _≤_, _<_};
+ghost use Prim.Native.Nat.{_+_, _/_, _%_, _^_, _≤_, _<_};
 ghost use lib.ListN.{length, take, replicate};
 ghost use Rattle.frame.specs.Field.{read, Sound};
 ghost use Rattle.frame.specs.Layout.{bytes};
-ghost use Rattle.table.specs.Table.{rowAt, lenOf, countOf, numbersOf};
-ghost use Rattle.table.specs.Narrowed.{opcode, argumentsIn, Ready};
-ghost use Rattle.decoder.specs.Words.{bigEnd, from, firstWord, lastWord, heldOf, heldByte, cleanWords, InWords, allTaken};
+ghost use Rattle.table.specs.Table.{kinds, rowAt, lenOf, countOf, numbersOf};
+ghost use Rattle.table.specs.Narrowed.{opcode, Ready};
+ghost use Rattle.decoder.specs.Words.{bigEnd, from, firstWord, lastWord, heldOf, heldByte, cleanWords, InWords, allTaken, nineIn};
 ghost use Rattle.decoder.specs.Decoding.{refuses, strayAt, lower, lacking, judged, sought, decode, decoded};
 use frame::Field;
 use refusal::Refusal;
+
+mod seats;
 
 pub enum Answer {
     Kind(u64),
@@ -24,6 +25,13 @@ pub struct Decoded {
     pub answer: Answer,
     pub count: usize,
     pub args: [u64; 9],
+}
+
+// What an opcode and a length lead to: the row at a place, or why there is none.
+pub enum Sought {
+    Row(usize),
+    WrongLength,
+    UnknownOpcode,
 }
 
 fn u32_as_usize(x: u32) -> usize
@@ -178,7 +186,7 @@ fn both(a: bool, b: bool) -> bool
 
 fn arguments_of(row: [u32; 13], first: u64, last: u64, frame: &[u8], args: &mut [u64; 9]) -> bool
     requires { ⌜ Ready row × (lenOf row ≡ length (now frame)) × InWords first last (now frame) × (now args ≡ replicate 9 0) ⌝ }
-    ensures { λ r. ⌜ (r ≡ allTaken (numbersOf row) (bytes (now (frame .entry)))) × (now (args .exit) ≡ argumentsIn row (now (frame .entry)) ++ replicate (9 - countOf row) 0) ⌝ }
+    ensures { λ r. ⌜ (r ≡ allTaken (numbersOf row) (bytes (now (frame .entry)))) × (now (args .exit) ≡ nineIn row (now (frame .entry))) ⌝ }
 {
     let mut taken = true;
     let n = u32_as_usize(row[3]);
@@ -187,7 +195,7 @@ fn arguments_of(row: [u32; 13], first: u64, last: u64, frame: &[u8], args: &mut 
         let number = row[4 + j];
         let v = read_at(first, last, frame, table::narrow_field(number));
         args[j] = v;
-        let next = both(taken, codes::is_taken(number % 4096, v));
+        let next = both(taken, codes::is_taken(number, v));
         taken = next;
         j += 1;
     }
@@ -210,7 +218,7 @@ fn held_byte(held: [u64; 2], n: usize, i: usize) -> u64
 
 // The lowest byte with a bit that no field of the row at a place holds, or the frame's length.
 fn first_stray(place: usize, frame: &[u8]) -> usize
-    requires { ⌜ (place < 39) × (lenOf (rowAt place) ≡ length (now frame)) ⌝ }
+    requires { ⌜ (place < kinds) × (lenOf (rowAt place) ≡ length (now frame)) ⌝ }
     ensures { λ r. ⌜ r ≡ strayAt (rowAt place) (now (frame .entry)) ⌝ }
 {
     let held = held_at(place);
@@ -230,7 +238,7 @@ fn first_stray(place: usize, frame: &[u8]) -> usize
 fn lowered(number: u32, v: u64, low: usize) -> usize
     ensures { λ r. ⌜ r ≡ lower number v low ⌝ }
 {
-    if codes::is_taken(number % 4096, v) {
+    if codes::is_taken(number, v) {
         return low;
     }
     let f = table::narrow_field(number);
@@ -276,7 +284,7 @@ fn is_clean(held: [u64; 2], first: u64, last: u64) -> bool
 
 // The lowest byte, below n, of a field that holds a code it lacks, or n. The fields are looked at again only where there is one.
 fn lacking_at(taken: bool, row: [u32; 13], args: [u64; 9], frame: &[u8]) -> usize
-    requires { ⌜ Ready row × (taken ≡ allTaken (numbersOf row) (bytes (now frame))) × (args ≡ argumentsIn row (now frame) ++ replicate (9 - countOf row) 0) ⌝ }
+    requires { ⌜ Ready row × (taken ≡ allTaken (numbersOf row) (bytes (now frame))) × (args ≡ nineIn row (now frame)) ⌝ }
     ensures { λ r. ⌜ r ≡ lacking (length (now (frame .entry))) (numbersOf row) (take (countOf row) args) ⌝ }
 {
     let n = frame.len();
@@ -289,7 +297,7 @@ fn lacking_at(taken: bool, row: [u32; 13], args: [u64; 9], frame: &[u8]) -> usiz
 
 // What a frame with the opcode and the length of the row at a place says, where it has no stray bit.
 fn read_out(i: usize, first: u64, last: u64, frame: &[u8]) -> Decoded
-    requires { ⌜ (i < 39) × (lenOf (rowAt i) ≡ length (now frame)) × InWords first last (now frame) × (cleanWords (heldOf (rowAt i)) first last ≡ true) ⌝ }
+    requires { ⌜ (i < kinds) × (lenOf (rowAt i) ≡ length (now frame)) × InWords first last (now frame) × (cleanWords (heldOf (rowAt i)) first last ≡ true) ⌝ }
     ensures { λ r. ⌜ r ≡ decoded (judged (i + 1) (rowAt i) (now (frame .entry))) ⌝ }
 {
     let row = table::row_at(i);
@@ -308,7 +316,7 @@ fn read_out(i: usize, first: u64, last: u64, frame: &[u8]) -> Decoded
 
 // What a frame with the opcode and the length of the row at a place says. Bytes are looked at one by one only to find a stray bit's place.
 fn judge(i: usize, frame: &[u8]) -> Decoded
-    requires { ⌜ (i < 39) × (lenOf (rowAt i) ≡ length (now frame)) ⌝ }
+    requires { ⌜ (i < kinds) × (lenOf (rowAt i) ≡ length (now frame)) ⌝ }
     ensures { λ r. ⌜ r ≡ decoded (judged (i + 1) (rowAt i) (now (frame .entry))) ⌝ }
 {
     let first = first_of(frame);
@@ -319,29 +327,6 @@ fn judge(i: usize, frame: &[u8]) -> Decoded
     refused(Refusal::StrayBit(first_stray(i, frame)))
 }
 
-// Where an opcode's rows are, four second bytes to a line: 0x04_8_C is place 4, length 8, and length 12 at the next place; 0 is none.
-// Short, since a constant array is built on the stack wherever it is read.
-const SEATS: [[u16; 4]; 18] = [
-    [0x1760, 0x1834, 0x1A45, 0],
-    [0, 0, 0, 0],
-    [0, 0, 0, 0],
-    [0x1C50, 0x1D50, 0, 0x1E30],
-    [0x1F90, 0x20A0, 0, 0],
-    [0, 0x2180, 0x2230, 0],
-    [0x2356, 0, 0x2530, 0x26A0],
-    [0, 0x0D34, 0, 0],
-    [0x0040, 0x0160, 0x0240, 0x0330],
-    [0, 0, 0x048C, 0x0690],
-    [0x0720, 0x0820, 0x0920, 0x0AB0],
-    [0, 0x0B40, 0x0C80, 0],
-    [0, 0, 0, 0],
-    [0, 0, 0, 0],
-    [0, 0, 0, 0],
-    [0, 0, 0, 0],
-    [0x0FB0, 0x1090, 0x1140, 0x12A0],
-    [0x13B0, 0x1440, 0x1520, 0x1620],
-];
-
 // The opcode, which is the first two bytes.
 fn opcode_of(frame: &[u8]) -> u64
     requires { ⌜ 2 ≤ length (now frame) ⌝ }
@@ -350,35 +335,22 @@ fn opcode_of(frame: &[u8]) -> u64
     u8_as_u64(frame[0]) * 256 + u8_as_u64(frame[1])
 }
 
-fn u16_as_usize(x: u16) -> usize
-    ensures { λ r. ⌜ r ≡ x ⌝ }
-{
-    x as usize
-}
-
-// The place of the row with this opcode and length; 39 for a length that the opcode lacks, 40 for an opcode that no row has.
-fn seek(op: u64, len: usize) -> usize
+// The row with this opcode and length.
+fn seek(op: u64, len: usize) -> Sought
     requires { ⌜ 2 ≤ len ⌝ }
     ensures { λ r. ⌜ r ≡ sought op len ⌝ }
 {
-    if op < 512 {
-        return 40;
-    }
-    if 583 < op {
-        return 40;
-    }
-    let at = (op - 512) as usize;
-    let seat = u16_as_usize(SEATS[at / 4][at % 4]);
-    if seat == 0 {
-        return 40;
+    let seat = u32_as_usize(seats::seat_of(op));
+    if seat / 16 % 16 == 0 {
+        return Sought::UnknownOpcode;
     }
     if seat / 16 % 16 == len {
-        return seat / 256;
+        return Sought::Row(seat / 256);
     }
     if seat % 16 == len {
-        return seat / 256 + 1;
+        return Sought::Row(seat / 256 + 1);
     }
-    39
+    Sought::WrongLength
 }
 
 // A frame's kind and arguments, or why it has none.
@@ -389,13 +361,10 @@ pub fn decode(frame: &[u8]) -> Decoded
     if n < 2 {
         return refused(Refusal::ShortFrame);
     }
-    let i = seek(opcode_of(frame), n);
-    if i < 39 {
-        return judge(i, frame);
-    }
-    if i == 39 {
-        refused(Refusal::WrongLength)
-    } else {
-        refused(Refusal::UnknownOpcode)
+    let row = seek(opcode_of(frame), n);
+    match row {
+        Sought::Row(i) => judge(i, frame),
+        Sought::WrongLength => refused(Refusal::WrongLength),
+        Sought::UnknownOpcode => refused(Refusal::UnknownOpcode),
     }
 }

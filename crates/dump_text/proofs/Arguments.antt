@@ -13,14 +13,14 @@ use Rattle.table.specs.Narrowed.{Ready}
 use Rattle.decoder.specs.Decoding.{Reading, reading, refuses, decode, decoded}
 use Rattle.table.proofs.Rows.{ready}
 use Rattle.codec.proofs.Accepted.{Inside, inside, Read, decode-read}
-use Rattle.codec.proofs.Handed.{decoded-reading, decoded-refuses}
+use Rattle.decoder.proofs.Handed.{decoded-reading, decoded-refuses}
 use Rattle.dump_text.specs.Text.{lineOf}
 
 pub decode-few : (f : List ℕ) (k : ℕ) (vs : List ℕ) → decode f ≡ reading k vs → length vs ≤ 9
 decode-few f k vs e =
     let d : Read f k vs = decode-read f k vs e in
     let r : List ℕ = getD rows (d .at) [] in
-    let n : Inside (numbersOf r) vs = inside 0 (numbersOf r) vs (d .none) in
+    let n : Inside (numbersOf r) vs = inside 1 (numbersOf r) vs (d .none) in
     let z : Ready r = ready (d .at) (d .row) in
     omega (arith, n .long, z .few, length-take (countOf r) (drop 4 r))
 

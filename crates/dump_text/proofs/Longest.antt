@@ -23,7 +23,7 @@ use Rattle.table.specs.Laid.{find}
 use Rattle.table.proofs.Rows.{count}
 use Rattle.reading.specs.Decimal.{digit, digits, decimal}
 use Rattle.reading.proofs.Decimals.{decimal-length}
-use Rattle.decoder.specs.Decoding.{Reading, reading, refuses, decode, judged, known, stray, lacking}
+use Rattle.decoder.specs.Decoding.{Reading, reading, refuses, decode, sought, answered, judged, known, stray, lacking}
 use Rattle.codec.proofs.Accepted.{Inside, inside, Read, decode-read}
 use Rattle.dump_text.specs.Text.{kindOf, refusalOf, placeIn, argumentsOf, blanked, lineOf}
 use Rattle.dump_text.specs.Parts.{longest}
@@ -139,7 +139,7 @@ kind-longest index f k vs d =
     let r : List ℕ = getD rows (d .at) [] in
     let n : ℕ = 1 + d .at in
     let s : T (short n r) = short-at 1 rows all-short (d .at) (rw count (d .row)) in
-    let i : Inside (numbersOf r) vs = inside 0 (numbersOf r) vs (d .none) in
+    let i : Inside (numbersOf r) vs = inside 1 (numbersOf r) vs (d .none) in
     let a : length (blanked vs) ≤ widest (numbersOf r) =
     arguments-short (numbersOf r) vs (i .fit) (both-left (held (numbersOf r)) (leb (length (decimal n) + widest (numbersOf r)) 38) s)
     in
@@ -158,5 +158,6 @@ line-longest index f = by (decode f) refl
 
 -- kind 6 with every bit set, at the last index that a pass prints
 pub longest-met : length (lineOf (2 ^ 64 - 2) (decode (2 ∷ 38 ∷ 135 ∷ 255 ∷ 255 ∷ 255 ∷ 255 ∷ 255 ∷ 127 ∷ 255 ∷ 255 ∷ 255 ∷ []))) ≡ longest
-unfolding decode judged known find stray lacking takes isIn tab tabFrom maskOf mask reads read readTo part narrowOf narrowsOf lineOf blanked decimal digits
+unfolding decode sought answered judged known find stray lacking takes isIn tab tabFrom maskOf mask reads read readTo part narrowOf narrowsOf lineOf blanked
+    decimal digits
 longest-met = refl

@@ -1,6 +1,6 @@
 -- A field takes just the codes of its enum, and is marked as one: a claim that is computed over all rows, and what it says of each field.
 -- Assumes nothing.
-use Prim.Native.Nat.{ℕ, zero, suc, _-_, _/_, _%_, _^_, _<_, _≤_}
+use Prim.Native.Nat.{ℕ, zero, suc, _-_, _^_, _<_, _≤_}
 use mathlib.Core.Path.{_≡_, refl, sym, _∙_, ap, subst}
 use mathlib.Core.Bool.{Bool, true, false, cond, not, _&&_}
 use mathlib.Core.List.{List, [], _∷_}
@@ -8,13 +8,13 @@ use mathlib.Core.Logic.{⊎-elim}
 use native.Mathlib.Nat.{not-suc-le-zero, le-of-suc-le-suc, eq-or-lt-of-le}
 use native.Mathlib.Omega.{arith}
 use borrow.Author.Tests.{ltb-true, ltb-false, ne-eqb}
-use lib.Dec.{T, eqb, leb, ltb, leb→le, ltb→lt}
+use lib.Dec.{T, ltb, ltb→lt}
 use lib.ListN.{getD}
 use Rattle.frame.proofs.Fields.{both-left, both-right}
-use Rattle.table.specs.Number.{plainOf, codesOf}
+use Rattle.table.specs.Number.{plainOf, isCode, codesOf}
 use Rattle.table.specs.Codes.{lists, rxBwCodes, isIn, takes}
 use Rattle.table.specs.Table.{rows, rowOf, numbersOf}
-use Rattle.builder.specs.Typed.{coded}
+use Rattle.codes.specs.Allowed.{fits}
 use Rattle.enums.specs.Values.{Enum, Sort, code, number, codesIn, sorts, sortsOf}
 
 -- ---- the claim
@@ -32,27 +32,24 @@ allBelow n [] = true
 allBelow n (x ∷ xs) = ltb x n && allBelow n xs
 
 -- a field of an enum is marked as one, holds its codes, and takes no other; a field of a number is not marked
-unfoldable pub agreesWith : ℕ → Bool → Sort → Bool
-agreesWith c marked (code e) =
-    (marked && leb (plainOf c .w) 64) && (allBelow (2 ^ plainOf c .w) (codesIn e) && agrees (2 ^ plainOf c .w) c (codesIn e))
-agreesWith c marked number = not marked
+unfoldable pub agreesWith : ℕ → Sort → Bool
+agreesWith c (code e) = isCode c && (allBelow (2 ^ plainOf c .w) (codesIn e) && agrees (2 ^ plainOf c .w) c (codesIn e))
+agreesWith c number = not (isCode c)
 
--- the fields of a row, with their marks as one number, and the arguments of its builder
-unfoldable pub fieldsAgree : List ℕ → ℕ → List Sort → Bool
-fieldsAgree [] marks [] = true
-fieldsAgree [] marks (s ∷ ss) = false
-fieldsAgree (c ∷ cs) marks [] = false
-fieldsAgree (c ∷ cs) marks (s ∷ ss) = agreesWith c (eqb (marks % 2) 1) s && fieldsAgree cs (marks / 2) ss
+-- the fields of a row, and the arguments of its builder
+unfoldable pub fieldsAgree : List ℕ → List Sort → Bool
+fieldsAgree [] [] = true
+fieldsAgree [] (s ∷ ss) = false
+fieldsAgree (c ∷ cs) [] = false
+fieldsAgree (c ∷ cs) (s ∷ ss) = agreesWith c s && fieldsAgree cs ss
 
-unfoldable pub rowsAgree : List (List ℕ) → List ℕ → List (List Sort) → Bool
-rowsAgree [] [] [] = true
-rowsAgree [] [] (ss ∷ sss) = false
-rowsAgree [] (m ∷ ms) sss = false
-rowsAgree (r ∷ rs) [] sss = false
-rowsAgree (r ∷ rs) (m ∷ ms) [] = false
-rowsAgree (r ∷ rs) (m ∷ ms) (ss ∷ sss) = fieldsAgree (numbersOf r) m ss && rowsAgree rs ms sss
+unfoldable pub rowsAgree : List (List ℕ) → List (List Sort) → Bool
+rowsAgree [] [] = true
+rowsAgree [] (ss ∷ sss) = false
+rowsAgree (r ∷ rs) [] = false
+rowsAgree (r ∷ rs) (ss ∷ sss) = fieldsAgree (numbersOf r) ss && rowsAgree rs sss
 
-pub all-agree : T (rowsAgree rows coded sorts)
+pub all-agree : T (rowsAgree rows sorts)
 unfolding rowsAgree fieldsAgree agreesWith allBelow agrees plainOf takes lists rxBwCodes isIn
 all-agree = tt
 
@@ -83,35 +80,27 @@ past-all n (x ∷ xs) t v h =
 
 -- ---- a field of an enum
 
-pub record Field (c : ℕ) (marked : Bool) (e : Enum) : Type 0 where
-  pub mark : marked ≡ true
-  pub narrow : plainOf c .w ≤ 64
+pub record Field (c : ℕ) (e : Enum) : Type 0 where
+  pub mark : isCode c ≡ true
   -- a number fits the field and is among its codes just where it is the code of a value
-  pub taken : (v : ℕ) → (ltb v (2 ^ plainOf c .w) && takes (codesOf c) v) ≡ isIn v (codesIn e)
+  pub taken : (v : ℕ) → fits (plainOf c .w) c v ≡ isIn v (codesIn e)
 
 pub told : (b : Bool) → T b → b ≡ true
 told true t = refl
 told false t = absurd t
 
-pub field-of : (c : ℕ) (marked : Bool) (e : Enum) → T (agreesWith c marked (code e)) → Field c marked e
+pub field-of : (c : ℕ) (e : Enum) → T (agreesWith c (code e)) → Field c e
 unfolding agreesWith
-field-of c marked e t = record {
-  mark = told marked (both-left marked small p);
-  narrow = leb→le _ _ (both-right marked small p);
+field-of c e t = record {
+  mark = told (isCode c) (both-left (isCode c) (allBelow n (codesIn e) && agrees n c (codesIn e)) t);
   taken = λ v. by-fit v (ltb v n) refl;
 }
   where
     n : ℕ
     n = 2 ^ plainOf c .w
 
-    small : Bool
-    small = leb (plainOf c .w) 64
-
-    p : T (marked && small)
-    p = both-left (marked && small) (allBelow n (codesIn e) && agrees n c (codesIn e)) t
-
     q : T (allBelow n (codesIn e) && agrees n c (codesIn e))
-    q = both-right (marked && small) (allBelow n (codesIn e) && agrees n c (codesIn e)) t
+    q = both-right (isCode c) (allBelow n (codesIn e) && agrees n c (codesIn e)) t
 
     by-fit : (v : ℕ) (b : Bool) → ltb v n ≡ b → (b && takes (codesOf c) v) ≡ isIn v (codesIn e)
     by-fit v true h = agrees-at n c (codesIn e) (both-right (allBelow n (codesIn e)) (agrees n c (codesIn e)) q) v (ltb-true v n h)
@@ -119,16 +108,13 @@ field-of c marked e t = record {
 
 -- ---- the fields of a kind
 
-agree-at : (rs : List (List ℕ)) (ms : List ℕ) (sss : List (List Sort)) → T (rowsAgree rs ms sss)
-    → (i : ℕ) → T (fieldsAgree (numbersOf (getD rs i [])) (getD ms i 0) (getD sss i []))
+agree-at : (rs : List (List ℕ)) (sss : List (List Sort)) → T (rowsAgree rs sss) → (i : ℕ) → T (fieldsAgree (numbersOf (getD rs i [])) (getD sss i []))
 unfolding rowsAgree fieldsAgree
-agree-at [] [] [] t i = tt
-agree-at [] [] (ss ∷ sss) t i = absurd t
-agree-at [] (m ∷ ms) sss t i = absurd t
-agree-at (r ∷ rs) [] sss t i = absurd t
-agree-at (r ∷ rs) (m ∷ ms) [] t i = absurd t
-agree-at (r ∷ rs) (m ∷ ms) (ss ∷ sss) t zero = both-left (fieldsAgree (numbersOf r) m ss) (rowsAgree rs ms sss) t
-agree-at (r ∷ rs) (m ∷ ms) (ss ∷ sss) t (suc i) = agree-at rs ms sss (both-right (fieldsAgree (numbersOf r) m ss) (rowsAgree rs ms sss) t) i
+agree-at [] [] t i = tt
+agree-at [] (ss ∷ sss) t i = absurd t
+agree-at (r ∷ rs) [] t i = absurd t
+agree-at (r ∷ rs) (ss ∷ sss) t zero = both-left (fieldsAgree (numbersOf r) ss) (rowsAgree rs sss) t
+agree-at (r ∷ rs) (ss ∷ sss) t (suc i) = agree-at rs sss (both-right (fieldsAgree (numbersOf r) ss) (rowsAgree rs sss) t) i
 
-pub kind-agrees : (k : ℕ) → T (fieldsAgree (numbersOf (rowOf k)) (getD coded (k - 1) 0) (sortsOf k))
-kind-agrees k = agree-at rows coded sorts all-agree (k - 1)
+pub kind-agrees : (k : ℕ) → T (fieldsAgree (numbersOf (rowOf k)) (sortsOf k))
+kind-agrees k = agree-at rows sorts all-agree (k - 1)

@@ -1,63 +1,52 @@
 -- Whatever values a typed builder is called with, the plain builder by number makes the same frame of their codes and numbers: it never
 -- refuses them, and never gives other bytes. Assumes nothing.
-use Prim.Native.Nat.{ℕ, suc, _-_, _/_, _%_}
-use mathlib.Core.Path.{_≡_, refl, sym, ap, ap₂, _∙_}
-use mathlib.Core.Bool.{Bool, true, false, cond, not, _&&_}
+use Prim.Native.Nat.{ℕ}
+use mathlib.Core.Path.{_≡_, sym, ap, _∙_, subst}
+use mathlib.Core.Bool.{Bool, true, cond, not}
 use mathlib.Core.List.{List, [], _∷_}
 use borrow.Author.Tests.{not-true}
-use lib.Dec.{T, eqb}
-use lib.ListN.{getD}
+use lib.Dec.{T}
 use Rattle.frame.proofs.Fields.{both-left, both-right}
-use Rattle.table.specs.Table.{isKind, rows, rowOf, numbersOf, plain, plainRow}
+use Rattle.table.specs.Number.{plainOf, isCode}
+use Rattle.table.specs.Table.{isKind, rowOf, numbersOf, plain}
 use Rattle.table.specs.Codes.{isIn}
-use Rattle.codes.specs.Allowed.{allows}
-use Rattle.builder.specs.Building.{makes, refuses, outside, unless}
-use Rattle.builder.specs.Typed.{coded, rangeOf, rangesOf, called, plainBy}
-use Rattle.builder.proofs.Typed.{range-code, range-number}
-use Rattle.refusal.specs.declared.Refusal.the-variants.{NotAKind}
+use Rattle.codes.specs.Allowed.{fits, accepts}
+use Rattle.builder.specs.Building.{makes, plainBy}
+use Rattle.builder.proofs.Taking.{Taken, plain-takes}
 use Rattle.enums.specs.Values as of
 use Rattle.enums.specs.Values.{Enum, Sort, Value, codeOf, codesIn, Args, numbersIn, sortsOf}
 use Rattle.enums.proofs.Listed.{listed}
 use Rattle.enums.proofs.Agree.{agreesWith, fieldsAgree, field-of, told, kind-agrees}
 
--- an argument that is allowed is passed over
-passed : (n c v : ℕ) (cs vs : List ℕ) → allows c v ≡ true → outside n (c ∷ cs) (v ∷ vs) ≡ outside (suc n) cs vs
-unfolding outside
-passed n c v cs vs e = ap (λ (b : Bool). cond b (outside (suc n) cs vs) n) e
+value-accepted : (c : ℕ) (e : Enum) (x : Value e) → T (agreesWith c (of.code e)) → T (accepts c (codeOf e x))
+value-accepted c e x t =
+    let f = field-of c e t in
+    let v : ℕ = codeOf e x in
+    subst T (sym (ap (λ (b : Bool). cond b (fits (plainOf c .w) c v) true) (f .mark) ∙ f .taken v ∙ told (isIn v (codesIn e)) (listed e x))) tt
 
-value-allowed : (c : ℕ) (marked : Bool) (e : Enum) (x : Value e) → T (agreesWith c marked (of.code e)) → allows (rangeOf c marked) (codeOf e x) ≡ true
-value-allowed c marked e x t =
-    let f = field-of c marked e t in
-    ap (λ (b : Bool). allows (rangeOf c b) (codeOf e x)) (f .mark)
-    ∙ range-code c (codeOf e x) (f .narrow) ∙ f .taken (codeOf e x) ∙ told (isIn (codeOf e x) (codesIn e)) (listed e x)
-
-number-allowed : (c : ℕ) (marked : Bool) (n : of.Number) → T (agreesWith c marked of.number) → allows (rangeOf c marked) (n .value) ≡ true
+number-accepted : (c v : ℕ) → T (agreesWith c of.number) → T (accepts c v)
 unfolding agreesWith
-number-allowed c marked n t =
-    ap (λ (b : Bool). allows (rangeOf c b) (n .value)) (not-true marked (told (not marked) t)) ∙ range-number c (n .value) (n .fits)
+number-accepted c v t =
+    subst T (sym (ap (λ (b : Bool). cond b (fits (plainOf c .w) c v) true) (not-true (isCode c) (told (not (isCode c)) t)))) tt
 
--- none of the arguments is outside its range
-none-outside : (cs : List ℕ) (marks : ℕ) (ss : List Sort) (a : Args ss) (n : ℕ) → T (fieldsAgree cs marks ss) → outside n (rangesOf cs marks) (numbersIn a) ≡ 0
-unfolding fieldsAgree outside numbersIn
-none-outside [] marks [] of.none n t = refl
-none-outside (c ∷ cs) marks [] of.none n t = absurd t
-none-outside [] marks (of.code e ∷ ss) (of.coded x a) n t = absurd t
-none-outside (c ∷ cs) marks (of.code e ∷ ss) (of.coded x a) n t =
-    let m : Bool = eqb (marks % 2) 1 in
-    passed n (rangeOf c m) (codeOf e x) (rangesOf cs (marks / 2)) (numbersIn a)
-    (value-allowed c m e x (both-left (agreesWith c m (of.code e)) (fieldsAgree cs (marks / 2) ss) t))
-    ∙ none-outside cs (marks / 2) ss a (suc n) (both-right (agreesWith c m (of.code e)) (fieldsAgree cs (marks / 2) ss) t)
-none-outside [] marks (of.number ∷ ss) (of.plus v a) n t = absurd t
-none-outside (c ∷ cs) marks (of.number ∷ ss) (of.plus v a) n t =
-    let m : Bool = eqb (marks % 2) 1 in
-    passed n (rangeOf c m) (v .value) (rangesOf cs (marks / 2)) (numbersIn a)
-    (number-allowed c m v (both-left (agreesWith c m of.number) (fieldsAgree cs (marks / 2) ss) t))
-    ∙ none-outside cs (marks / 2) ss a (suc n) (both-right (agreesWith c m of.number) (fieldsAgree cs (marks / 2) ss) t)
+-- each of the arguments is taken, and none is missing or surplus
+all-taken : (cs : List ℕ) (ss : List Sort) (a : Args ss) → T (fieldsAgree cs ss) → Taken accepts cs (numbersIn a)
+unfolding fieldsAgree numbersIn
+all-taken [] [] of.none t = tt
+all-taken (c ∷ cs) [] of.none t = absurd t
+all-taken [] (of.code e ∷ ss) (of.coded x a) t = absurd t
+all-taken (c ∷ cs) (of.code e ∷ ss) (of.coded x a) t = (
+  value-accepted c e x (both-left (agreesWith c (of.code e)) (fieldsAgree cs ss) t),
+  all-taken cs ss a
+      (both-right (agreesWith c (of.code e)) (fieldsAgree cs ss) t),
+)
+all-taken [] (of.number ∷ ss) (of.plus v a) t = absurd t
+all-taken (c ∷ cs) (of.number ∷ ss) (of.plus v a) t = (
+  number-accepted c (v .value) (both-left (agreesWith c of.number) (fieldsAgree cs ss) t),
+  all-taken cs ss a
+      (both-right (agreesWith c of.number) (fieldsAgree cs ss) t),
+)
 
 -- the law, for every kind and all values that its builder can be called with
 pub typed-makes : (k : ℕ) → T (isKind k) → (a : Args (sortsOf k)) → plainBy k (numbersIn a) ≡ makes (plain k (numbersIn a))
-unfolding plainBy called unless
-typed-makes k t a =
-    ap (λ (b : Bool). cond b (called (k - 1) (numbersIn a)) (refuses NotAKind)) (told (isKind k) t)
-    ∙ ap (λ (m : ℕ). unless m (plainRow (rowOf k) (numbersIn a)))
-    (none-outside (numbersOf (rowOf k)) (getD coded (k - 1) 0) (sortsOf k) a 1 (kind-agrees k))
+typed-makes k t a = plain-takes k (numbersIn a) t (all-taken (numbersOf (rowOf k)) (sortsOf k) a (kind-agrees k))

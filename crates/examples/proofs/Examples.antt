@@ -1,4 +1,4 @@
--- The examples that document 01 marks P, and the ends of some ranges: one list of cases with one claim, proved by computing.
+-- Worked examples and the ends of some ranges: one list of cases with one claim, proved by computing.
 -- Assumes nothing.
 use mathlib.Core.Path.{_≡_, refl}
 use mathlib.Core.List.{List, [], _∷_, map}
@@ -11,9 +11,9 @@ use Rattle.table.specs.Table.{plain}
 use Rattle.table.specs.Laid.{find}
 use Rattle.refusal.specs.Numbers.{numberOf, placeOf}
 use Rattle.decoder.specs.Decoding as decoder
-use Rattle.decoder.specs.Decoding.{Reading, reading, stray, lacking, judged, known, decode}
+use Rattle.decoder.specs.Decoding.{Reading, reading, stray, lacking, judged, known, sought, answered, decode}
 use Rattle.builder.specs.Building as builder
-use Rattle.builder.specs.Building.{Making, makes, outside, unless, checked}
+use Rattle.builder.specs.Building.{Making, makes, firstMisfit, unless, builds, checked}
 use Rattle.status.specs.Codes.{cmdCode, resetCode, modeCode}
 use Rattle.status.specs.Words.{statusOf, intrOf, cmdIn, resetIn, modeIn}
 use Rattle.status.specs.declared.CmdStatus.{CmdStatus}
@@ -24,18 +24,57 @@ use Rattle.status.specs.declared.ChipModeStatus.{ChipModeStatus}
 use Rattle.status.specs.declared.ChipModeStatus.the-variants as mode
 use Rattle.reading.specs.Decimal.{decimal, digits}
 use Rattle.reading.specs.Level.{signedOf, tenths, hundredths, rssiText, snrText, counterDifference}
+use Rattle.cmd_lora.specs.Codes.{sfCode, loraBwCode, loraCrCode, ldroCode, loraFilterCode, addrLenCode}
+use Rattle.cmd_lora.specs.declared.Sf.{Sf}
+use Rattle.cmd_lora.specs.declared.Sf.the-variants.{Sf7, Sf12}
+use Rattle.cmd_lora.specs.declared.LoraBw.{LoraBw}
+use Rattle.cmd_lora.specs.declared.LoraBw.the-variants.{Bw125, Bw1000}
+use Rattle.cmd_lora.specs.declared.LoraCr.{LoraCr}
+use Rattle.cmd_lora.specs.declared.LoraCr.the-variants.{Cr1Ham45Si, Cr9Cc12}
+use Rattle.cmd_lora.specs.declared.Ldro.{Ldro}
+use Rattle.cmd_lora.specs.declared.Ldro.the-variants.{Off, On}
+use Rattle.cmd_lora.specs.declared.LoraFilter.{LoraFilter}
+use Rattle.cmd_lora.specs.declared.LoraFilter.the-variants.{Auto, DccF}
+use Rattle.cmd_lora.specs.declared.AddrLen.{AddrLen}
+use Rattle.cmd_lora.specs.declared.AddrLen.the-variants.{Addr2B}
+use Rattle.cmd_fsk.specs.Codes.{whitenTypeCode}
+use Rattle.cmd_fsk.specs.declared.WhitenType.{WhitenType}
+use Rattle.cmd_fsk.specs.declared.WhitenType.the-variants.{Sx126xLr11xx}
+use Rattle.cmd_common.specs.Codes.{paSelCode, paLfModeCode}
+use Rattle.cmd_common.specs.declared.PaSel.{PaSel}
+use Rattle.cmd_common.specs.declared.PaSel.the-variants.{LfPa, HfPa}
+use Rattle.cmd_common.specs.declared.PaLfMode.{PaLfMode}
+use Rattle.cmd_common.specs.declared.PaLfMode.the-variants.{LfPaFsm}
 use Rattle.cmd_lora.specs.Responses.{loraPacketStatusRsp}
 
--- a case: what the specs give, and what document 01 says
+-- a case: what the specs give, and what is stated
 pub record Case : Type 0 where
   pub given : List ℕ
   pub stated : List ℕ
 
+-- ---- arguments by the names of their codes
+
+-- kind 1
+abbrev modulation : Sf → LoraBw → LoraCr → Ldro → LoraFilter → List ℕ
+modulation sf bw cr ldro filter = sfCode sf ∷ loraBwCode bw ∷ loraCrCode cr ∷ ldroCode ldro ∷ loraFilterCode filter ∷ []
+
+-- kind 11
+abbrev address : AddrLen → ℕ → ℕ → List ℕ
+address len pos addr = addrLenCode len ∷ pos ∷ addr ∷ []
+
+-- kind 18
+abbrev whitening : WhitenType → ℕ → List ℕ
+whitening type init = whitenTypeCode type ∷ init ∷ []
+
+-- kind 27
+abbrev amplifier : PaSel → PaLfMode → ℕ → ℕ → List ℕ
+amplifier sel mode duty slices = paSelCode sel ∷ paLfModeCode mode ∷ duty ∷ slices ∷ []
+
 -- ---- what a case can be of
 
 -- a kind's arguments, and its plain frame
-abbrev builds : ℕ → List ℕ → List ℕ → Case
-builds k args frame = record { given = plain k args; stated = frame }
+abbrev gives : ℕ → List ℕ → List ℕ → Case
+gives k args frame = record { given = plain k args; stated = frame }
 
 -- a refusal, as its number and its place; and what is accepted, behind a 0
 abbrev refused : ℕ → ℕ → List ℕ
@@ -92,25 +131,24 @@ counter earlier later d = record { given = counterDifference earlier later ∷ [
 
 unfoldable pub cases : List Case
 cases =
-    -- P Sf7, Bw125, Cr1Ham45Si, Off, Auto: 02 20 74 10
-    builds 1 (7 ∷ 4 ∷ 1 ∷ 0 ∷ 0 ∷ []) (0x02 ∷ 0x20 ∷ 0x74 ∷ 0x10 ∷ [])
-    -- P Sf12, Bw1000, Cr9Cc12, On, DccF: 02 20 C7 9D
-    ∷ builds 1 (12 ∷ 7 ∷ 9 ∷ 1 ∷ 3 ∷ []) (0x02 ∷ 0x20 ∷ 0xC7 ∷ 0x9D ∷ [])
-    -- P rx_timeout 16,777,215: 02 0C FF FF FF; 16,777,216: plain 02 0C 00 00 00, checked 6 at 1
-    ∷ builds 29 (16777215 ∷ []) (0x02 ∷ 0x0C ∷ 0xFF ∷ 0xFF ∷ 0xFF ∷ [])
+    -- four fields share two bytes
+    gives 1 (modulation Sf7 Bw125 Cr1Ham45Si Off Auto) (0x02 ∷ 0x20 ∷ 0x74 ∷ 0x10 ∷ [])
+    ∷ gives 1 (modulation Sf12 Bw1000 Cr9Cc12 On DccF) (0x02 ∷ 0x20 ∷ 0xC7 ∷ 0x9D ∷ [])
+    -- a number that fills its field, and one more, which the plain builder masks
+    ∷ gives 29 (16777215 ∷ []) (0x02 ∷ 0x0C ∷ 0xFF ∷ 0xFF ∷ 0xFF ∷ [])
     ∷ checks 29 (16777215 ∷ []) (accepted (0x02 ∷ 0x0C ∷ 0xFF ∷ 0xFF ∷ 0xFF ∷ []))
-    ∷ builds 29 (16777216 ∷ []) (0x02 ∷ 0x0C ∷ 0 ∷ 0 ∷ 0 ∷ [])
+    ∷ gives 29 (16777216 ∷ []) (0x02 ∷ 0x0C ∷ 0 ∷ 0 ∷ 0 ∷ [])
     ∷ checks 29 (16777216 ∷ []) (refused 6 1)
-    -- P HfPa, LfPaFsm, 0, 0: 02 02 80 00; LfPa with duty 8 gives the same plainly, checked 6 at 3
-    ∷ builds 27 (1 ∷ 0 ∷ 0 ∷ 0 ∷ []) (0x02 ∷ 0x02 ∷ 0x80 ∷ 0 ∷ [])
-    ∷ builds 27 (0 ∷ 0 ∷ 8 ∷ 0 ∷ []) (0x02 ∷ 0x02 ∷ 0x80 ∷ 0 ∷ [])
-    ∷ checks 27 (0 ∷ 0 ∷ 8 ∷ 0 ∷ []) (refused 6 3)
-    -- P Sx126xLr11xx, init 4,096: plain 02 42 10 00, checked 6 at 2
-    ∷ builds 18 (0 ∷ 4096 ∷ []) (0x02 ∷ 0x42 ∷ 0x10 ∷ 0 ∷ [])
-    ∷ checks 18 (0 ∷ 4096 ∷ []) (refused 6 2)
-    -- P Addr2B, 1, 0x0102: 02 2B 21 02 01 then six zeros
-    ∷ builds 11 (2 ∷ 1 ∷ 0x0102 ∷ []) (0x02 ∷ 0x2B ∷ 0x21 ∷ 0x02 ∷ 0x01 ∷ 0 ∷ 0 ∷ 0 ∷ 0 ∷ 0 ∷ 0 ∷ [])
-    -- P status 04 04: Ok, Cleared, Rx; 08 00: Unknown
+    -- two fields share a bit: the plain builder ORs them, the checked one takes a narrower duty cycle
+    ∷ gives 27 (amplifier HfPa LfPaFsm 0 0) (0x02 ∷ 0x02 ∷ 0x80 ∷ 0 ∷ [])
+    ∷ gives 27 (amplifier LfPa LfPaFsm 8 0) (0x02 ∷ 0x02 ∷ 0x80 ∷ 0 ∷ [])
+    ∷ checks 27 (amplifier LfPa LfPaFsm 8 0) (refused 6 3)
+    -- and so with the start of the whitening
+    ∷ gives 18 (whitening Sx126xLr11xx 4096) (0x02 ∷ 0x42 ∷ 0x10 ∷ 0 ∷ [])
+    ∷ checks 18 (whitening Sx126xLr11xx 4096) (refused 6 2)
+    -- the address goes low byte first
+    ∷ gives 11 (address Addr2B 1 0x0102) (0x02 ∷ 0x2B ∷ 0x21 ∷ 0x02 ∷ 0x01 ∷ 0 ∷ 0 ∷ 0 ∷ 0 ∷ 0 ∷ 0 ∷ [])
+    -- the parts of a status, by their names
     ∷ status (0x04 ∷ 0x04 ∷ []) cmd.Ok reset.Cleared mode.Rx
     ∷ status (0x08 ∷ 0 ∷ []) cmd.Unknown reset.Cleared mode.Sleep
     -- each part set, and the same with bits 15-12 and 3 set, which are ignored
@@ -123,7 +161,7 @@ cases =
     -- a short slice fills from the top: one byte 80 is bit 31
     ∷ interrupts (0x80 ∷ []) (2 ^ 31)
     ∷ interrupts (0 ∷ 0 ∷ 0 ∷ 1 ∷ 0xFF ∷ []) 1
-    -- P LoRa packet status, byte 5 = 5A, byte 7 = 02: rssi_pkt 181, printed -90.5
+    -- a level whose half stands in another byte, and its text
     ∷ levels (0x04 ∷ 0x04 ∷ 0 ∷ 0 ∷ 0 ∷ 0x5A ∷ 0 ∷ 0x02 ∷ []) 181 0
     ∷ level 181 (45 ∷ 57 ∷ 48 ∷ 46 ∷ 53 ∷ [])
     -- levels 0, 1, 511 and 65,535: 0.0, -0.5, -255.5 and -32767.5
@@ -131,23 +169,23 @@ cases =
     ∷ level 1 (45 ∷ 48 ∷ 46 ∷ 53 ∷ [])
     ∷ level 511 (45 ∷ 50 ∷ 53 ∷ 53 ∷ 46 ∷ 53 ∷ [])
     ∷ level 65535 (45 ∷ 51 ∷ 50 ∷ 55 ∷ 54 ∷ 55 ∷ 46 ∷ 53 ∷ [])
-    -- P SNR byte 80: -32.00; FF: -0.25
+    -- a ratio has a sign: 80 is -32.00, FF is -0.25
     ∷ snr 0x80 (45 ∷ 51 ∷ 50 ∷ 46 ∷ 48 ∷ 48 ∷ [])
     ∷ snr 0xFF (45 ∷ 48 ∷ 46 ∷ 50 ∷ 53 ∷ [])
     -- 7F: 31.75; 00: 0.00
     ∷ snr 0x7F (51 ∷ 49 ∷ 46 ∷ 55 ∷ 53 ∷ [])
     ∷ snr 0 (48 ∷ 46 ∷ 48 ∷ 48 ∷ [])
-    -- P 02 20 40 10: refusal 5 at 2
+    -- a code that the enum lacks
     ∷ decodes (0x02 ∷ 0x20 ∷ 0x40 ∷ 0x10 ∷ []) (refused 5 2)
-    ∷ decodes (0x02 ∷ 0x20 ∷ 0x74 ∷ 0x10 ∷ []) (accepted (1 ∷ 7 ∷ 4 ∷ 1 ∷ 0 ∷ 0 ∷ []))
-    ∷ checks 1 (7 ∷ 4 ∷ 1 ∷ 0 ∷ 0 ∷ []) (accepted (0x02 ∷ 0x20 ∷ 0x74 ∷ 0x10 ∷ []))
-    ∷ checks 11 (2 ∷ 1 ∷ 0x0102 ∷ []) (accepted (0x02 ∷ 0x2B ∷ 0x21 ∷ 0x02 ∷ 0x01 ∷ 0 ∷ 0 ∷ 0 ∷ 0 ∷ 0 ∷ 0 ∷ []))
+    ∷ decodes (0x02 ∷ 0x20 ∷ 0x74 ∷ 0x10 ∷ []) (accepted (1 ∷ modulation Sf7 Bw125 Cr1Ham45Si Off Auto))
+    ∷ checks 1 (modulation Sf7 Bw125 Cr1Ham45Si Off Auto) (accepted (0x02 ∷ 0x20 ∷ 0x74 ∷ 0x10 ∷ []))
+    ∷ checks 11 (address Addr2B 1 0x0102) (accepted (0x02 ∷ 0x2B ∷ 0x21 ∷ 0x02 ∷ 0x01 ∷ 0 ∷ 0 ∷ 0 ∷ 0 ∷ 0 ∷ 0 ∷ []))
     -- every 4 before any 5
     ∷ decodes (0x02 ∷ 0x41 ∷ 0 ∷ 0 ∷ 0x07 ∷ 0x80 ∷ 0 ∷ 0 ∷ 0 ∷ []) (refused 4 5)
     -- the unit is the fourth of kind 17's nine arguments, and always 0
     ∷ checks 17 (0 ∷ 0 ∷ 0 ∷ 1 ∷ 0 ∷ 0 ∷ 0 ∷ 0 ∷ 0 ∷ []) (refused 6 4)
     ∷ decodes (0x02 ∷ 0x41 ∷ 0 ∷ 0 ∷ 0x08 ∷ 0x10 ∷ 0 ∷ 0 ∷ 0 ∷ []) (accepted (17 ∷ 0 ∷ 8 ∷ 1 ∷ 0 ∷ 0 ∷ 0 ∷ 0 ∷ 0 ∷ 0 ∷ []))
-    -- a command is known by opcode and length together
+    -- opcode and length tell the kind together
     ∷ decodes (0x03 ∷ 0x20 ∷ 0x74 ∷ 0x10 ∷ []) (refused 2 0)
     ∷ decodes (0x02 ∷ 0x0C ∷ []) (refused 3 0)
     ∷ decodes (0x02 ∷ []) (refused 1 0)
@@ -159,10 +197,11 @@ cases =
     ∷ checks 4 [] (refused 6 1)
     ∷ checks 4 (1 ∷ 2 ∷ []) (refused 6 2)
     ∷ checks 4 (256 ∷ 2 ∷ []) (refused 6 1)
-    -- P counter 65,535 then 3: 4
+    -- a counter that went round
     ∷ counter 65535 3 4
     ∷ []
 
 pub examples : map (λ (c : Case). c .given) cases ≡ map (λ (c : Case). c .stated) cases
-unfolding cases put tab tabFrom byteOf maskOf reads part mask read readTo sound plainOf narrowOf narrowsOf lists rxBwCodes isIn takes find checked unless outside decode judged known stray lacking loraPacketStatusRsp snrText rssiText tenths hundredths decimal digits
+unfolding cases put tab tabFrom byteOf maskOf reads part mask read readTo sound plainOf narrowOf narrowsOf lists rxBwCodes isIn takes find builds unless
+    firstMisfit decode sought answered judged known stray lacking loraPacketStatusRsp snrText rssiText tenths hundredths decimal digits
 examples = refl

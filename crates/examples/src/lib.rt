@@ -1,1 +1,1 @@
-// The worked examples of document 01. This crate has no code: proofs/Examples.antt has them as one list of cases with one claim.
+// Worked examples. This crate has no code: proofs/Examples.antt has them as one list of cases with one claim.

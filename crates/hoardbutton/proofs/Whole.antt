@@ -15,8 +15,7 @@ use Rattle.refusal.specs.declared.Refusal.{Refusal}
 use Rattle.refusal.specs.Numbers.{placeOf}
 use Rattle.decoder.specs.Decoding.{Reading, reading, refuses, decode}
 use Rattle.builder.specs.Building as builder
-use Rattle.builder.specs.Building.{Making, makes, checked}
-use Rattle.builder.specs.Typed.{plainBy}
+use Rattle.builder.specs.Building.{Making, makes, checked, plainBy}
 use Rattle.codec.proofs.Laws.{decode-kind}
 use Rattle.codec.proofs.Places.{placeIn, decode-place, Within, checked-within, plain-within}
 use Rattle.dump_text.proofs.Arguments.{decode-few}

@@ -1,4 +1,5 @@
--- The frame and the decoded frame as C has them: the fields of codec's records as numbers of 32 bits. proofs/Whole.antt says that none is cut.
+-- The frame and the decoded frame as C has them: the fields of the records of builders and decoder, as numbers of 32 bits. proofs/Whole.antt
+-- says that none is cut.
 -- Assumes nothing.
 use Rattle.decoder.specs.declared.Answer.{Answer}
 use Rattle.decoder.specs.declared.Answer.the-variants.{Kind, Refused}

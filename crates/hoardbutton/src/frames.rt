@@ -1,8 +1,7 @@
 // Frames: the plain and the checked builder, and the decoder.
 ghost use mathlib.Core.Path.{_≡_};
 ghost use Rattle.decoder.specs.Decoding.{decode, decoded};
-ghost use Rattle.builder.specs.Building.{checked, built};
-ghost use Rattle.builder.specs.Typed.{plainBy};
+ghost use Rattle.builder.specs.Building.{checked, built, plainBy};
 ghost use Rattle.hoardbutton.specs.Frames.{verdictC, kindC, frameC, decodedC};
 use crate::answers::HbAnswer;
 use crate::answers::done;

@@ -19,7 +19,7 @@ use Rattle.refusal.specs.declared.Refusal.the-variants.{NotAKind}
 use Rattle.table.specs.Table.{isKind}
 use Rattle.decoder.specs.Decoding.{Reading, decode, decoded, reading, refuses}
 use Rattle.decoder.specs.declared.Decoded.{Decoded}
-use Rattle.codec.proofs.Handed.{decoded-reading, decoded-refuses}
+use Rattle.decoder.proofs.Handed.{decoded-reading, decoded-refuses}
 use Rattle.codec.proofs.Laws.{decode-kind}
 use Rattle.settings.specs.Settings.{lacks, lengths, sizeOf, slotFor, slotIn, slotOf}
 use Rattle.table.specs.Table as table

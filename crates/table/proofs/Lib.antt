@@ -1,5 +1,6 @@
 pub mod Below
+pub mod Past
+pub mod Then
 pub mod Cells
 pub mod Rows
-pub mod Steps
 pub mod Outcome

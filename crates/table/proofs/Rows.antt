@@ -1,10 +1,10 @@
--- What the rows of the table have in common: one test, computed over all 39, and the laws that turn it into the rule of each row.
+-- What the rows of the table have in common: one test, computed over all of them, and the laws that turn it into the rule of each row.
 -- Assumes nothing.
 use mathlib.Core.Path.{_≡_, refl, sym, ap, _∙_, subst}
 use mathlib.Core.Bool.{Bool, true, false, cond, _&&_}
 use mathlib.Core.List.{List, [], _∷_}
 use Prim.Native.Nat.{ℕ, zero, suc, _+_, _-_, _≤_, _<_, min}
-use native.Mathlib.Nat.{le-of-suc-le-suc, not-suc-le-zero, zero-add, suc-add, add-suc, add-zero}
+use native.Mathlib.Nat.{not-suc-le-zero}
 use native.Mathlib.Omega.{arith}
 use lib.Dec.{T, leb, eqb, leb→le, eqb→eq}
 use lib.ListN.{length, getD}
@@ -12,15 +12,16 @@ use Rattle.frame.specs.Field.{sound, mask}
 use Rattle.frame.specs.Layout.{soundAll, layout, apart, apartAll, disjoint, tab, byteOf}
 use Rattle.frame.proofs.Fields.{both-left, both-right}
 use Rattle.frame.proofs.Puts.{puts-zero}
+use Rattle.table.proofs.Below.{below, below-at}
 use Rattle.table.specs.Number.{narrowOf, plainOf, narrowsOf, plainsOf}
 use Rattle.table.specs.Table.{kinds, rows, rowAt, opOf, lenOf, countOf, numbersOf, opNumber, plainRow}
 use Rattle.table.specs.Narrowed.{fieldsOf, Ready}
-use Rattle.table.specs.Laid.{laid, allLaid, slotsFrom, find, allFound}
+use Rattle.table.specs.Laid.{laid, slotsFrom, find, found}
 
 -- ---- the test
 
-pub right : T ((allLaid rows && slotsFrom 0 rows) && allFound rows 0 rows)
-unfolding allLaid laid slotsFrom allFound find soundAll sound disjoint apartAll apart mask narrowsOf narrowOf plainOf
+pub right : T ((below (λ k. laid (getD rows k [])) kinds && slotsFrom 0 rows) && below (λ k. found k (getD rows k [])) kinds)
+unfolding below laid slotsFrom found find soundAll sound disjoint apartAll apart mask narrowsOf narrowOf plainOf
 right = tt
 
 pub count : length rows ≡ kinds
@@ -38,42 +39,35 @@ pub record Laid (r : List ℕ) : Type 0 where
 laid-is : (r : List ℕ) → T (laid r) → Laid r
 unfolding laid
 laid-is r t =
-    let sizes = both-left ((leb 2 (lenOf r) && leb (lenOf r) 12) && leb (countOf r) 9) (soundAll (lenOf r) (plainsOf (opNumber ∷ numbersOf r)) && layout (lenOf r) (narrowsOf (opNumber ∷ numbersOf r))) t in
-    let fields = both-right ((leb 2 (lenOf r) && leb (lenOf r) 12) && leb (countOf r) 9) (soundAll (lenOf r) (plainsOf (opNumber ∷ numbersOf r)) && layout (lenOf r) (narrowsOf (opNumber ∷ numbersOf r))) t in
+    let plains : Bool = soundAll (lenOf r) (plainsOf (opNumber ∷ numbersOf r)) in
+    let narrows : Bool = layout (lenOf r) (narrowsOf (opNumber ∷ numbersOf r)) in
+    let sizes = both-left ((leb 2 (lenOf r) && leb (lenOf r) 12) && leb (countOf r) 9) (plains && narrows) t in
+    let fields = both-right ((leb 2 (lenOf r) && leb (lenOf r) 12) && leb (countOf r) 9) (plains && narrows) t in
     let lens = both-left (leb 2 (lenOf r) && leb (lenOf r) 12) (leb (countOf r) 9) sizes in record {
       least = leb→le _ _ (both-left (leb 2 (lenOf r)) (leb (lenOf r) 12) lens);
       most = leb→le _ _ (both-right (leb 2 (lenOf r)) (leb (lenOf r) 12) lens);
       few = leb→le _ _ (both-right (leb 2 (lenOf r) && leb (lenOf r) 12) (leb (countOf r) 9) sizes);
-      inside = both-left (soundAll (lenOf r) (plainsOf (opNumber ∷ numbersOf r))) (layout (lenOf r) (narrowsOf (opNumber ∷ numbersOf r))) fields;
-      apart-narrowed = both-right (soundAll (lenOf r) (plainsOf (opNumber ∷ numbersOf r))) (layout (lenOf r) (narrowsOf (opNumber ∷ numbersOf r))) fields;
+      inside = both-left plains narrows fields;
+      apart-narrowed = both-right plains narrows fields;
     }
-
-laid-at : (rs : List (List ℕ)) → T (allLaid rs) → (k : ℕ) → k < length rs → Laid (getD rs k [])
-unfolding allLaid
-laid-at [] t k h = absurd (not-suc-le-zero h)
-laid-at (r ∷ rs) t zero h = laid-is r (both-left (laid r) (allLaid rs) t)
-laid-at (r ∷ rs) t (suc k) h = laid-at rs (both-right (laid r) (allLaid rs) t) k (le-of-suc-le-suc h)
-
-found-at : (all : List (List ℕ)) (i : ℕ) (rs : List (List ℕ)) → T (allFound all i rs) → (k : ℕ) → k < length rs → find all (opOf (getD rs k [])) (lenOf (getD rs k [])) ≡ i + k
-unfolding allFound
-found-at all i [] t k h = absurd (not-suc-le-zero h)
-found-at all i (r ∷ rs) t zero h = eqb→eq _ _ (both-left (eqb (find all (opOf r) (lenOf r)) i) (allFound all (suc i) rs) t) ∙ sym (add-zero i)
-found-at all i (r ∷ rs) t (suc k) h =
-    found-at all (suc i) rs (both-right (eqb (find all (opOf r) (lenOf r)) i) (allFound all (suc i) rs) t) k (le-of-suc-le-suc h) ∙ suc-add i k ∙ sym (add-suc i k)
 
 -- ---- the rule of each row
 
-laid-part : T (allLaid rows)
-laid-part = both-left (allLaid rows) (slotsFrom 0 rows) (both-left (allLaid rows && slotsFrom 0 rows) (allFound rows 0 rows) right)
+all-laid : Bool
+all-laid = below (λ k. laid (getD rows k [])) kinds
 
-found-part : T (allFound rows 0 rows)
-found-part = both-right (allLaid rows && slotsFrom 0 rows) (allFound rows 0 rows) right
+all-found : Bool
+all-found = below (λ k. found k (getD rows k [])) kinds
 
 pub slots-in-order : T (slotsFrom 0 rows)
-slots-in-order = both-right (allLaid rows) (slotsFrom 0 rows) (both-left (allLaid rows && slotsFrom 0 rows) (allFound rows 0 rows) right)
+unfolding all-laid all-found
+slots-in-order = both-right all-laid (slotsFrom 0 rows) (both-left (all-laid && slotsFrom 0 rows) all-found right)
 
 pub row-laid : (k : ℕ) → k < kinds → Laid (getD rows k [])
-row-laid k h = laid-at rows laid-part k h
+unfolding all-laid all-found
+row-laid k h =
+    let t : T all-laid = both-left all-laid (slotsFrom 0 rows) (both-left (all-laid && slotsFrom 0 rows) all-found right) in
+    laid-is (getD rows k []) (below-at (λ (i : ℕ). laid (getD rows i [])) kinds k t h)
 
 -- a place of the table has its row
 pub row-at : (k : ℕ) → k < kinds → rowAt k ≡ getD rows k []
@@ -91,7 +85,8 @@ pub row-ready : (i : ℕ) (r : List ℕ) → r ≡ rowAt i → i < kinds → Rea
 row-ready i r e h = subst (λ (x : List ℕ). Ready x) (sym (e ∙ row-at i h)) (ready i h)
 
 -- a row that is found has the opcode and the length
-pub found-row : (rs : List (List ℕ)) (o l : ℕ) → find rs o l < length rs → (opOf (getD rs (find rs o l) []) ≡ o) × (lenOf (getD rs (find rs o l) []) ≡ l)
+pub found-row : (rs : List (List ℕ)) (o l : ℕ) → find rs o l < length rs
+    → (opOf (getD rs (find rs o l) []) ≡ o) × (lenOf (getD rs (find rs o l) []) ≡ l)
 unfolding find
 found-row [] o l h = absurd (not-suc-le-zero h)
 found-row (r ∷ rs) o l h = go (eqb (opOf r) o) (eqb (lenOf r) l) refl refl h (found-row rs o l)
@@ -107,11 +102,14 @@ found-row (r ∷ rs) o l h = go (eqb (opOf r) o) (eqb (lenOf r) l) refl refl h (
 
 -- the search finds the row itself
 pub row-found : (k : ℕ) → k < kinds → find rows (opOf (getD rows k [])) (lenOf (getD rows k [])) ≡ k
-row-found k h = found-at rows 0 rows found-part k h ∙ zero-add k
+unfolding all-laid all-found found
+row-found k h = eqb→eq _ _ (below-at (λ (i : ℕ). found i (getD rows i [])) kinds k (both-right (all-laid && slotsFrom 0 rows) all-found right) h)
 
 -- opcode and length determine the kind
-pub row-one : (j k : ℕ) → j < kinds → k < kinds → opOf (getD rows j []) ≡ opOf (getD rows k []) → lenOf (getD rows j []) ≡ lenOf (getD rows k []) → j ≡ k
-row-one j k h l p q = sym (row-found j h) ∙ ap (λ (n : ℕ). find rows n (lenOf (getD rows j []))) p ∙ ap (find rows (opOf (getD rows k []))) q ∙ row-found k l
+pub row-one : (j k : ℕ) → j < kinds → k < kinds → opOf (getD rows j []) ≡ opOf (getD rows k []) → lenOf (getD rows j []) ≡ lenOf (getD rows k [])
+    → j ≡ k
+row-one j k h l p q =
+    sym (row-found j h) ∙ ap (λ (n : ℕ). find rows n (lenOf (getD rows j []))) p ∙ ap (find rows (opOf (getD rows k []))) q ∙ row-found k l
 
 -- byte i of a plain builder's frame is all that the opcode and the arguments put there, ORed
 pub plain-is : (k : ℕ) → k < kinds → (vs : List ℕ) →

@@ -1,4 +1,4 @@
--- The codes that an enum has, where they are not all from 0 to a limit. Document 01: "An enum's code is its number in the Rust."
+-- The codes that an enum has, where they are not all from 0 to a limit (REFERENCE, "Commands").
 -- Assumes nothing.
 use Prim.Native.Nat.{ℕ, _-_}
 use mathlib.Core.Bool.{Bool, true, false, cond}
@@ -39,7 +39,7 @@ lists =
     ∷ (0 ∷ 8 ∷ 16 ∷ 24 ∷ 32 ∷ [])
     -- `Crc`
     ∷ (0 ∷ 1 ∷ 2 ∷ 3 ∷ 4 ∷ 9 ∷ 10 ∷ 11 ∷ 12 ∷ [])
-    -- the LoRa `ExitMode`: "exit_mode 4 (0, 1, 16)"
+    -- the LoRa `ExitMode`
     ∷ (0 ∷ 1 ∷ 16 ∷ [])
     -- `RxBw`
     ∷ rxBwCodes

@@ -1,26 +1,31 @@
-// The command table: ONE constant of 39 named rows that the plain builders, the checked builder, the decoder and the book read.
-// Its numbers are proved equal to document 01's rows in specs/Table.antt.
+// The command table: ONE constant of named rows that the plain builders, the checked builder, the decoder and the book read.
+// Its numbers are proved equal to the rows of specs/Table.antt.
 ghost use mathlib.Core.Path.{_≡_};
 ghost use Rattle.frame.specs.Layout.{put};
 ghost use Rattle.table.specs.Number.{narrowOf, plainOf};
 ghost use Rattle.table.specs.Table.{rows, rowAt, yesNo};
 use frame::Field;
 
-// The fields' numbers, named as document 01 writes their places: B2_7_4 is "2.7-4", W2_3 is "2-3", L3_10 is "3-10" low byte first.
-// _SF, _PBL, _CRC, _CAD, _BW: one of that list of codes; _TO9: no code above 9; _CUT3: narrowed to 3 bits.
+// The fields' numbers, named by their places: B2_7_4 is byte 2, bits 7 to 4; W2_3 is bytes 2 and 3; L3_10 is bytes 3 to 10, low byte first.
+// C stands for B or W where the argument is a code: an enum's, or a yes or no. _SF, _PBL, _CRC, _CAD, _BW: one of that list of codes;
+// _TO9: nothing above 9; _CUT3: narrowed to 3 bits.
 // In hex: the first byte; 8 for the low byte first, plus the low bit; two digits for the narrowed width; the bits that the plain
-// builder has more; three digits for the codes.
-const B2_0: u32 = 0x2001_0000;
+// builder has more; 8 for a code, plus three digits for what is taken.
+const C2_0: u32 = 0x2001_0800;
 
 const B2_1_0: u32 = 0x2002_0000;
 
-const B2_1_0_TO2: u32 = 0x2002_0002;
+const C2_1_0: u32 = 0x2002_0800;
+
+const C2_1_0_TO2: u32 = 0x2002_0802;
 
 const B2_2_0: u32 = 0x2003_0000;
 
 const B2_3_0: u32 = 0x2004_0000;
 
-const B2_3_0_TO4: u32 = 0x2004_0004;
+const C2_3_0: u32 = 0x2004_0800;
+
+const C2_3_0_TO4: u32 = 0x2004_0804;
 
 const B2_4_0: u32 = 0x2005_0000;
 
@@ -38,27 +43,27 @@ const W2_9: u32 = 0x2040_0000;
 
 const B2_5_2: u32 = 0x2204_0000;
 
-const B2_4: u32 = 0x2401_0000;
+const C2_4: u32 = 0x2401_0800;
 
-const B2_5_4_TO2: u32 = 0x2402_0002;
+const C2_5_4_TO2: u32 = 0x2402_0802;
 
 const B2_7_4_CUT3: u32 = 0x2403_1000;
 
-const B2_7_4_TO8: u32 = 0x2404_0008;
+const C2_7_4_TO8: u32 = 0x2404_0808;
 
-const B2_7_4_SF: u32 = 0x2404_0100;
+const C2_7_4_SF: u32 = 0x2404_0900;
 
 const B2_7_6: u32 = 0x2602_0000;
 
-const B2_7_6_TO2: u32 = 0x2602_0002;
+const C2_7_6_TO2: u32 = 0x2602_0802;
 
-const B2_7: u32 = 0x2701_0000;
+const C2_7: u32 = 0x2701_0800;
 
-const B3_0: u32 = 0x3001_0000;
+const C3_0: u32 = 0x3001_0800;
 
-const B3_1_0_TO1: u32 = 0x3002_0001;
+const C3_1_0_TO1: u32 = 0x3002_0801;
 
-const B3_2_0: u32 = 0x3003_0000;
+const C3_2_0: u32 = 0x3003_0800;
 
 const B3_3_0: u32 = 0x3004_0000;
 
@@ -70,11 +75,11 @@ const W3_4: u32 = 0x3010_0000;
 
 const W3_5: u32 = 0x3018_0000;
 
-const B3_3_2: u32 = 0x3202_0000;
+const C3_3_2: u32 = 0x3202_0800;
 
-const B3_4: u32 = 0x3401_0000;
+const C3_4: u32 = 0x3401_0800;
 
-const B3_7_4_TO9: u32 = 0x3404_0009;
+const C3_7_4_TO9: u32 = 0x3404_0809;
 
 const L3_10: u32 = 0x3840_0000;
 
@@ -82,13 +87,13 @@ const B4_4_0: u32 = 0x4005_0000;
 
 const W4: u32 = 0x4008_0000;
 
-const W4_PBL: u32 = 0x4008_0101;
+const C4_PBL: u32 = 0x4008_0901;
 
-const W4_CAD: u32 = 0x4008_0103;
+const C4_CAD: u32 = 0x4008_0903;
 
-const B5_0: u32 = 0x5001_0000;
+const C5_0: u32 = 0x5001_0800;
 
-const B5_1_0: u32 = 0x5002_0000;
+const C5_1_0: u32 = 0x5002_0800;
 
 const B5_4_0: u32 = 0x5005_0000;
 
@@ -96,19 +101,19 @@ const W5: u32 = 0x5008_0000;
 
 const W5_7: u32 = 0x5018_0000;
 
-const B5_1: u32 = 0x5101_0000;
+const C5_1: u32 = 0x5101_0800;
 
-const B5_2: u32 = 0x5201_0000;
+const C5_2: u32 = 0x5201_0800;
 
-const B5_3_2_TO2: u32 = 0x5202_0002;
+const C5_3_2_TO2: u32 = 0x5202_0802;
 
-const B5_4_CUT0: u32 = 0x5400_1000;
+const C5_4_CUT0: u32 = 0x5400_1800;
 
-const B5_4: u32 = 0x5401_0000;
+const C5_4: u32 = 0x5401_0800;
 
-const B6_1_0_TO2: u32 = 0x6002_0002;
+const C6_1_0_TO2: u32 = 0x6002_0802;
 
-const B6_3_0: u32 = 0x6004_0000;
+const C6_3_0: u32 = 0x6004_0800;
 
 const B6_4_0: u32 = 0x6005_0000;
 
@@ -118,11 +123,11 @@ const W6_9: u32 = 0x6020_0000;
 
 const B7_4_0: u32 = 0x7005_0000;
 
-const W7_BW: u32 = 0x7008_0104;
+const C7_BW: u32 = 0x7008_0904;
 
 const W7_9: u32 = 0x7018_0000;
 
-const B8_0: u32 = 0x8001_0000;
+const C8_0: u32 = 0x8001_0800;
 
 const B8_2_0: u32 = 0x8003_0000;
 
@@ -132,9 +137,9 @@ const W8: u32 = 0x8008_0000;
 
 const W8_10: u32 = 0x8018_0000;
 
-const B8_4: u32 = 0x8401_0000;
+const C8_4: u32 = 0x8401_0800;
 
-const B8_7_4_CRC: u32 = 0x8404_0102;
+const C8_7_4_CRC: u32 = 0x8404_0902;
 
 const B9_3_0: u32 = 0x9004_0000;
 
@@ -144,7 +149,7 @@ const B10_6_0: u32 = 0xA007_0000;
 
 const W10: u32 = 0xA008_0000;
 
-const B10_7: u32 = 0xA701_0000;
+const C10_7: u32 = 0xA701_0800;
 
 const W11: u32 = 0xB008_0000;
 
@@ -165,31 +170,31 @@ pub const ROW_1: [u32; 13] = [
     4,
     0,
     5,
-    B2_7_4_SF,
-    B2_3_0,
-    B3_7_4_TO9,
-    B3_1_0_TO1,
-    B3_3_2,
+    C2_7_4_SF,
+    C2_3_0,
+    C3_7_4_TO9,
+    C3_1_0_TO1,
+    C3_3_2,
     0,
     0,
     0,
     0,
 ];
 
-pub const ROW_2: [u32; 13] = [0x0221, 6, 1, 5, W2_3, W4, B5_2, B5_1, B5_0, 0, 0, 0, 0];
+pub const ROW_2: [u32; 13] = [0x0221, 6, 1, 5, W2_3, W4, C5_2, C5_1, C5_0, 0, 0, 0, 0];
 
-pub const ROW_3: [u32; 13] = [0x0222, 4, 2, 2, W2, B3_0, 0, 0, 0, 0, 0, 0, 0];
+pub const ROW_3: [u32; 13] = [0x0222, 4, 2, 2, W2, C3_0, 0, 0, 0, 0, 0, 0, 0];
 
 pub const ROW_4: [u32; 13] = [0x0223, 3, 3, 1, W2, 0, 0, 0, 0, 0, 0, 0, 0];
 
-pub const ROW_5: [u32; 13] = [0x0226, 8, 4, 4, B2_7, B2_2_0, W3_4, W5_7, 0, 0, 0, 0, 0];
+pub const ROW_5: [u32; 13] = [0x0226, 8, 4, 4, C2_7, B2_2_0, W3_4, W5_7, 0, 0, 0, 0, 0];
 
 pub const ROW_6: [u32; 13] = [
     0x0226,
     12,
     5,
     9,
-    B2_7,
+    C2_7,
     B2_2_0,
     W3_4,
     W5_7,
@@ -200,7 +205,7 @@ pub const ROW_6: [u32; 13] = [
     W11,
 ];
 
-pub const ROW_7: [u32; 13] = [0x0227, 9, 6, 6, W2, B3_4, B3_3_0, W4_CAD, W5_7, W8, 0, 0, 0];
+pub const ROW_7: [u32; 13] = [0x0227, 9, 6, 6, W2, C3_4, B3_3_0, C4_CAD, W5_7, W8, 0, 0, 0];
 
 pub const ROW_8: [u32; 13] = [0x0228, 2, ACTION, 0, 0, 0, 0, 0, 0, 0, 0, 0, 0];
 
@@ -213,7 +218,7 @@ pub const ROW_11: [u32; 13] = [
     11,
     7,
     3,
-    B2_7_4_TO8,
+    C2_7_4_TO8,
     B2_3_0,
     L3_10,
     0,
@@ -242,7 +247,7 @@ pub const ROW_13: [u32; 13] = [
     0,
 ];
 
-pub const ROW_14: [u32; 13] = [0x021D, 3, 10, 2, B2_7_6_TO2, B2_3_0, 0, 0, 0, 0, 0, 0, 0];
+pub const ROW_14: [u32; 13] = [0x021D, 3, 10, 2, C2_7_6_TO2, B2_3_0, 0, 0, 0, 0, 0, 0, 0];
 
 pub const ROW_15: [u32; 13] = [
     0x021D,
@@ -252,7 +257,7 @@ pub const ROW_15: [u32; 13] = [
     B2_7_6,
     B2_5_2,
     B2_1_0,
-    B3_4,
+    C3_4,
     B3_3_0,
     0,
     0,
@@ -260,7 +265,7 @@ pub const ROW_15: [u32; 13] = [
     0,
 ];
 
-pub const ROW_16: [u32; 13] = [0x0240, 11, 12, 4, W2_5, B6_3_0, W7_BW, W8_10, 0, 0, 0, 0, 0];
+pub const ROW_16: [u32; 13] = [0x0240, 11, 12, 4, W2_5, C6_3_0, C7_BW, W8_10, 0, 0, 0, 0, 0];
 
 pub const ROW_17: [u32; 13] = [
     0x0241,
@@ -268,21 +273,21 @@ pub const ROW_17: [u32; 13] = [
     13,
     9,
     W2_3,
-    W4_PBL,
-    B5_4,
-    B5_4_CUT0,
-    B5_3_2_TO2,
-    B5_1_0,
+    C4_PBL,
+    C5_4,
+    C5_4_CUT0,
+    C5_3_2_TO2,
+    C5_1_0,
     W6_7,
-    B8_7_4_CRC,
-    B8_0,
+    C8_7_4_CRC,
+    C8_0,
 ];
 
-pub const ROW_18: [u32; 13] = [0x0242, 4, 14, 2, B2_4, W2_3_CUT12, 0, 0, 0, 0, 0, 0, 0];
+pub const ROW_18: [u32; 13] = [0x0242, 4, 14, 2, C2_4, W2_3_CUT12, 0, 0, 0, 0, 0, 0, 0];
 
 pub const ROW_19: [u32; 13] = [0x0243, 10, 15, 2, W2_5, W6_9, 0, 0, 0, 0, 0, 0, 0];
 
-pub const ROW_20: [u32; 13] = [0x0244, 11, 16, 3, W2_9, B10_7, B10_6_0, 0, 0, 0, 0, 0, 0];
+pub const ROW_20: [u32; 13] = [0x0244, 11, 16, 3, W2_9, C10_7, B10_6_0, 0, 0, 0, 0, 0, 0];
 
 pub const ROW_21: [u32; 13] = [0x0245, 4, 17, 2, W2, W3, 0, 0, 0, 0, 0, 0, 0];
 
@@ -292,17 +297,17 @@ pub const ROW_23: [u32; 13] = [0x0247, 2, ACTION, 0, 0, 0, 0, 0, 0, 0, 0, 0, 0];
 
 pub const ROW_24: [u32; 13] = [0x0200, 6, 18, 1, W2_5, 0, 0, 0, 0, 0, 0, 0, 0];
 
-pub const ROW_25: [u32; 13] = [0x0201, 3, 19, 1, B2_0, 0, 0, 0, 0, 0, 0, 0, 0];
+pub const ROW_25: [u32; 13] = [0x0201, 3, 19, 1, C2_0, 0, 0, 0, 0, 0, 0, 0, 0];
 
-pub const ROW_26: [u32; 13] = [0x0201, 4, 20, 2, B2_0, B3_2_0, 0, 0, 0, 0, 0, 0, 0];
+pub const ROW_26: [u32; 13] = [0x0201, 4, 20, 2, C2_0, C3_2_0, 0, 0, 0, 0, 0, 0, 0];
 
 pub const ROW_27: [u32; 13] = [
     0x0202,
     4,
     21,
     4,
-    B2_7,
-    B2_1_0,
+    C2_7,
+    C2_1_0,
     B2_7_4_CUT3,
     B3_3_0,
     0,
@@ -317,8 +322,8 @@ pub const ROW_28: [u32; 13] = [
     5,
     22,
     5,
-    B2_7,
-    B2_1_0,
+    C2_7,
+    C2_1_0,
     B2_7_4_CUT3,
     B3_3_0,
     B4_4_0,
@@ -332,7 +337,7 @@ pub const ROW_29: [u32; 13] = [0x020C, 5, ACTION, 1, W2_4, 0, 0, 0, 0, 0, 0, 0, 
 
 pub const ROW_30: [u32; 13] = [0x020D, 5, ACTION, 1, W2_4, 0, 0, 0, 0, 0, 0, 0, 0];
 
-pub const ROW_31: [u32; 13] = [0x020F, 3, 23, 1, B2_0, 0, 0, 0, 0, 0, 0, 0, 0];
+pub const ROW_31: [u32; 13] = [0x020F, 3, 23, 1, C2_0, 0, 0, 0, 0, 0, 0, 0, 0];
 
 pub const ROW_32: [u32; 13] = [
     0x0210,
@@ -341,7 +346,7 @@ pub const ROW_32: [u32; 13] = [
     4,
     W2_4,
     W5_7,
-    B8_4,
+    C8_4,
     B8_2_0,
     0,
     0,
@@ -355,8 +360,8 @@ pub const ROW_33: [u32; 13] = [
     10,
     24,
     4,
-    B2_7,
-    B2_1_0_TO2,
+    C2_7,
+    C2_1_0_TO2,
     W3_5,
     W6_9,
     0,
@@ -373,8 +378,8 @@ pub const ROW_35: [u32; 13] = [
     3,
     26,
     2,
-    B2_5_4_TO2,
-    B2_3_0_TO4,
+    C2_5_4_TO2,
+    C2_3_0_TO4,
     0,
     0,
     0,
@@ -390,7 +395,7 @@ pub const ROW_37: [u32; 13] = [0x0218, 6, ACTION, 2, W2_4, W5, 0, 0, 0, 0, 0, 0,
 
 pub const ROW_38: [u32; 13] = [0x021A, 3, 27, 1, B2_3_0, 0, 0, 0, 0, 0, 0, 0, 0];
 
-pub const ROW_39: [u32; 13] = [0x021B, 10, 28, 4, W2_4, W5, B6_1_0_TO2, W7_9, 0, 0, 0, 0, 0];
+pub const ROW_39: [u32; 13] = [0x021B, 10, 28, 4, W2_4, W5, C6_1_0_TO2, W7_9, 0, 0, 0, 0, 0];
 
 pub const TABLE: [[u32; 13]; KINDS as usize] = [
     ROW_1,

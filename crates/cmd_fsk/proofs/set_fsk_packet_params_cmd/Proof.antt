@@ -1,6 +1,6 @@
 use mathlib.Core.Path.{refl, _∙_}
 use borrow.Author.Needs.{needs}
-use Rattle.table.proofs.Steps.{then}
+use Rattle.table.proofs.Then.{then}
 use Rattle.cmd_fsk.proofs.set_fsk_packet_params_cmd.Statement.{statement}
 use Rattle.cmd_fsk.proofs.set_fsk_packet_params_cmd.Tie as tie
 

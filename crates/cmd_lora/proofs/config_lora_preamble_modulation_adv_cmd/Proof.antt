@@ -1,6 +1,6 @@
 use mathlib.Core.Path.{refl, _∙_}
 use borrow.Author.Needs.{needs}
-use Rattle.table.proofs.Steps.{then}
+use Rattle.table.proofs.Then.{then}
 use Rattle.cmd_lora.proofs.config_lora_preamble_modulation_adv_cmd.Statement.{statement}
 use Rattle.cmd_lora.proofs.config_lora_preamble_modulation_adv_cmd.Tie as tie
 

@@ -27,7 +27,11 @@ mul-sum : tie.Need-mul-sum Inv-loop μ-loop
 mul-sum c =
     let k = c .before .before in
     let l : 8 * c .before .loop .i ≤ 56 = omega arith in
-    omega (arith, lt-of-lt-of-le (bigEnd-lt (bytes (k .before .args .s .now)) (λ j. omega (arith, k .shared-slice-known .given j)) (c .before .loop .i)) (pow-mono l))
+    omega (
+      arith,
+      lt-of-lt-of-le (bigEnd-lt (bytes (k .before .args .s .now)) (λ j. omega (arith, k .shared-slice-known .given j)) (c .before .loop .i))
+          (pow-mono l),
+    )
 
 add-sum : tie.Need-add-sum Inv-loop μ-loop
 add-sum c =

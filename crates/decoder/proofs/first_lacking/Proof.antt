@@ -24,16 +24,24 @@ loop-holds : tie.Need-loop-holds Inv-loop μ-loop
 loop-holds c =
     let s = c .before in
     let a = s .args in
-    let n1 : length (a .t1) ≡ 13 = search needs in
-    (omega arith, s .pre, sym (lacking-none (a .t1) n1 (s .pre) (a .n) (drop (countOf (a .t1)) (take (countOf (a .t1)) (a .t2)))) ∙ sym (ap (from (a .n) (a .t1) (a .t2)) (c .u32-as-usize .ensures)))
+    let n1 : length (a .t1) ≡ 13 = search needs in (
+      omega arith,
+      s .pre,
+      sym (lacking-none (a .t1) n1 (s .pre) (a .n) (drop (countOf (a .t1)) (take (countOf (a .t1)) (a .t2))))
+          ∙ sym (ap (from (a .n) (a .t1) (a .t2)) (c .u32-as-usize .ensures)),
+    )
 
 loop-again : tie.Need-loop-again Inv-loop μ-loop
 loop-again c =
     let s = c .before .before .before .before in
     let l = c .before .before .loop in
     let n1 : length (s .args .t1) ≡ 13 = search needs in
-    let n2 : length (s .args .t2) ≡ 9 = search needs in
-    (omega arith, s .pre, c .lowered .ensures ∙ ap (lower _ _) (l .inv .2) ∙ lacking-more (s .args .t1) n1 (s .pre) (s .args .n) (s .args .t2) (l .j) n2 (c .before .loop-test .taken) (l .inv .0))
+    let n2 : length (s .args .t2) ≡ 9 = search needs in (
+      omega arith,
+      s .pre,
+      c .lowered .ensures ∙ ap (lower _ _) (l .inv .2) ∙ lacking-more (s .args .t1) n1 (s .pre) (s .args .n) (s .args .t2) (l .j) n2
+          (c .before .loop-test .taken) (l .inv .0),
+    )
 
 returns : tie.Need-returns Inv-loop μ-loop
 returns c =

@@ -40,7 +40,8 @@ returns c =
     let i = k .before .before .loop .i in
     let r = row-ready (s .args .place) (rowAt (s .args .place)) refl (s .pre .0) in
     let x = c .before .held-byte .ensures ∙ ap (λ (h : List ℕ). heldByte h (length (s .args .frame .now)) i) (k .before .before .before .held-at .ensures) in
-    let z = byte-stray (rowAt (s .args .place)) (s .args .frame .now) r (s .pre .1) i (omega arith) _ _ (c .before .before .u8-as-u64 .ensures .0) x (c .if1 .taken) in
+    let z = byte-stray (rowAt (s .args .place)) (s .args .frame .now) r (s .pre .1) i (omega arith) _ _ (c .before .before .u8-as-u64 .ensures .0) x
+    (c .if1 .taken) in
     omega (arith, z)
 
 loop-again : tie.Need-loop-again Inv-loop μ-loop
@@ -50,7 +51,8 @@ loop-again c =
     let i = k .before .before .loop .i in
     let r = row-ready (s .args .place) (rowAt (s .args .place)) refl (s .pre .0) in
     let x = c .before .held-byte .ensures ∙ ap (λ (h : List ℕ). heldByte h (length (s .args .frame .now)) i) (k .before .before .before .held-at .ensures) in
-    let z = byte-clean (rowAt (s .args .place)) (s .args .frame .now) r (s .pre .1) i (omega arith) _ _ (c .before .before .u8-as-u64 .ensures .0) x (c .if1 .left) in
+    let z = byte-clean (rowAt (s .args .place)) (s .args .frame .now) r (s .pre .1) i (omega arith) _ _ (c .before .before .u8-as-u64 .ensures .0) x
+    (c .if1 .left) in
     (omega arith, omega (arith, z))
 
 returns-2 : tie.Need-returns-2 Inv-loop μ-loop
@@ -61,4 +63,5 @@ returns-2 c =
 pub first-stray-spec : {M : Type 1} → statement M
 first-stray-spec =
     tie.close
-    (tie.spec Inv-loop μ-loop (λ c κs. search needs) loop-holds (λ c. omega arith) (λ c κs. search needs) held-byte-requires returns (λ c. omega arith) (λ c. omega arith) loop-again returns-2)
+    (tie.spec Inv-loop μ-loop (λ c κs. search needs) loop-holds (λ c. omega arith) (λ c κs. search needs) held-byte-requires returns (λ c. omega arith)
+    (λ c. omega arith) loop-again returns-2)

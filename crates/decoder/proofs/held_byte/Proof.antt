@@ -16,4 +16,5 @@ returns-2 c = sym (simp (le-ltb _ _ (c .if1 .left)))
 pub held-byte-spec : {M : Type 1} → statement M
 held-byte-spec =
     tie.close
-    (tie.spec (search needs) (search needs) (search needs) (search needs) (search needs) (search needs) (search needs) (search needs) (search needs) (search needs) returns returns-2)
+    (tie.spec (search needs) (search needs) (search needs) (search needs) (search needs) (search needs) (search needs) (search needs) (search needs)
+    (search needs) returns returns-2)

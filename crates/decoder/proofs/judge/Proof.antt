@@ -21,7 +21,8 @@ read-out-requires c κs =
       s .pre .0,
       s .pre .1,
       record { first-is = a .ensures; last-is = z .ensures },
-      ap (λ (h : List ℕ). cleanWords h (a .result) (z .result)) (sym (c .before .before .held-at .ensures)) ∙ sym (c .before .is-clean .ensures) ∙ c .if1 .taken,
+      ap (λ (h : List ℕ). cleanWords h (a .result) (z .result)) (sym (c .before .before .held-at .ensures)) ∙ sym (c .before .is-clean .ensures)
+          ∙ c .if1 .taken,
     )
 
 returns : tie.Need-returns
@@ -37,8 +38,10 @@ returns-2 c =
     let z = c .before .before .before .before .before .last-of in
     let p = c .before .first-stray in
     let cw : cleanWords (heldOf (rowAt i)) (a .result) (z .result) ≡ false =
-    ap (λ (h : List ℕ). cleanWords h (a .result) (z .result)) (sym (c .before .before .before .before .held-at .ensures)) ∙ sym (c .before .before .before .is-clean .ensures) ∙ c .before .before .if1 .left in
-    let l = words-stray (rowAt i) f (row-ready i (rowAt i) refl (s .pre .0)) (s .pre .1) (λ j. omega (arith, k .shared-slice-known .given j)) (a .result) (z .result) (record { first-is = a .ensures; last-is = z .ensures }) cw in
+    ap (λ (h : List ℕ). cleanWords h (a .result) (z .result)) (sym (c .before .before .before .before .held-at .ensures))
+    ∙ sym (c .before .before .before .is-clean .ensures) ∙ c .before .before .if1 .left in
+    let l = words-stray (rowAt i) f (row-ready i (rowAt i) refl (s .pre .0)) (s .pre .1) (λ j. omega (arith, k .shared-slice-known .given j)) (a .result)
+    (z .result) (record { first-is = a .ensures; last-is = z .ensures }) cw in
     c .refused .ensures ∙ ap decoded (sym (judged-stray (rowAt i) f (i + 1) (p .result) (p .ensures) (omega (arith, p .ensures, l))))
 
 pub judge-spec : {M : Type 1} → statement M

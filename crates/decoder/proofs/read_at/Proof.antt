@@ -24,7 +24,8 @@ returns-2 c =
     let d : Sound 16 f = in-sixteen (length l) f (omega arith) (s .pre .1) in
     c .bits-of .ensures
     ∙ ap (λ (x : ℕ). x / 2 ^ (8 * (length l - (f .first + size f)) + f .lo) % 2 ^ f .w) (s .pre .0 .last-is)
-    ∙ sym (read-last f d (c .before .before .before .before .before .before .if1 .left) (bytes l) (λ j. omega (arith, k .shared-slice-known .given j)) (length l) (s .pre .1 .ends) (omega (arith, c .before .if2 .taken)))
+    ∙ sym (read-last f d (c .before .before .before .before .before .before .if1 .left) (bytes l) (λ j. omega (arith, k .shared-slice-known .given j))
+    (length l) (s .pre .1 .ends) (omega (arith, c .before .if2 .taken)))
 
 returns-3 : tie.Need-returns-3
 returns-3 c =
@@ -35,7 +36,9 @@ returns-3 c =
     let d : Sound 16 f = in-sixteen (length l) f (omega arith) (s .pre .1) in
     c .bits-of2 .ensures
     ∙ ap (λ (x : ℕ). x / 2 ^ (8 * (8 - (f .first + size f)) + f .lo) % 2 ^ f .w) (s .pre .0 .first-is)
-    ∙ sym (read-first f d (c .before .before .before .before .before .before .before .before .before .before .before .if1 .left) (bytes l) (λ j. omega (arith, k .shared-slice-known .given j)) (length l) (c .before .before .before .before .if4 .taken) (c .before .before .before .before .before .if3 .taken))
+    ∙ sym (read-first f d (c .before .before .before .before .before .before .before .before .before .before .before .if1 .left) (bytes l)
+    (λ j. omega (arith, k .shared-slice-known .given j)) (length l) (c .before .before .before .before .if4 .taken)
+    (c .before .before .before .before .before .if3 .taken))
 
 returns-4 : tie.Need-returns-4
 returns-4 c =
@@ -45,4 +48,5 @@ returns-4 c =
 pub read-at-spec : {M : Type 1} → statement M
 read-at-spec =
     tie.close
-    (tie.spec (search needs) returns (search needs) (search needs) (search needs) (search needs) (search needs) (search needs) (search needs) returns-2 (search needs) (search needs) (search needs) (search needs) returns-3 (search needs) returns-4)
+    (tie.spec (search needs) returns (search needs) (search needs) (search needs) (search needs) (search needs) (search needs) (search needs) returns-2
+    (search needs) (search needs) (search needs) (search needs) returns-3 (search needs) returns-4)

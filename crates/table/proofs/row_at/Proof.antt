@@ -1,10 +1,10 @@
 use mathlib.Core.Path.{_≡_, sym, ap}
 use mathlib.Core.List.{[]}
-use Prim.Native.Nat.{ℕ, min}
+use Prim.Native.Nat.{ℕ, _-_, min}
 use native.Mathlib.Omega.{arith}
 use lib.ListN.{getD}
-use Rattle.table.specs.Table.{rows, rowAt}
-use Rattle.table.proofs.Steps.{past}
+use Rattle.table.specs.Table.{kinds, rows, rowAt}
+use Rattle.table.proofs.Past.{past}
 use Rattle.table.proofs.row_at.Statement.{statement}
 use Rattle.table.proofs.row_at.Tie as tie
 
@@ -16,9 +16,22 @@ last : tie.Need-returns-39
 unfolding rowAt
 last c =
     let i = c .before .args .i in
-    let e : min i 38 ≡ 38 = omega (arith, past 38 i (c .match .rest)) in
+    let e : min i (kinds - 1) ≡ kinds - 1 = omega (arith, past (kinds - 1) i (c .match .rest)) in
     sym (ap (λ (k : ℕ). getD rows k []) e)
 
 pub row-at-spec : {M : Type 1} → statement M
 unfolding rowAt
-row-at-spec = tie.close (tie.spec (λ c. is (c .match .keys1)) (λ c. is (c .match .keys2)) (λ c. is (c .match .keys3)) (λ c. is (c .match .keys4)) (λ c. is (c .match .keys5)) (λ c. is (c .match .keys6)) (λ c. is (c .match .keys7)) (λ c. is (c .match .keys8)) (λ c. is (c .match .keys9)) (λ c. is (c .match .keys10)) (λ c. is (c .match .keys11)) (λ c. is (c .match .keys12)) (λ c. is (c .match .keys13)) (λ c. is (c .match .keys14)) (λ c. is (c .match .keys15)) (λ c. is (c .match .keys16)) (λ c. is (c .match .keys17)) (λ c. is (c .match .keys18)) (λ c. is (c .match .keys19)) (λ c. is (c .match .keys20)) (λ c. is (c .match .keys21)) (λ c. is (c .match .keys22)) (λ c. is (c .match .keys23)) (λ c. is (c .match .keys24)) (λ c. is (c .match .keys25)) (λ c. is (c .match .keys26)) (λ c. is (c .match .keys27)) (λ c. is (c .match .keys28)) (λ c. is (c .match .keys29)) (λ c. is (c .match .keys30)) (λ c. is (c .match .keys31)) (λ c. is (c .match .keys32)) (λ c. is (c .match .keys33)) (λ c. is (c .match .keys34)) (λ c. is (c .match .keys35)) (λ c. is (c .match .keys36)) (λ c. is (c .match .keys37)) (λ c. is (c .match .keys38)) last)
+row-at-spec =
+    tie.close
+    (tie.spec
+    (λ c. is (c .match .keys1)) (λ c. is (c .match .keys2)) (λ c. is (c .match .keys3)) (λ c. is (c .match .keys4))
+    (λ c. is (c .match .keys5)) (λ c. is (c .match .keys6)) (λ c. is (c .match .keys7)) (λ c. is (c .match .keys8))
+    (λ c. is (c .match .keys9)) (λ c. is (c .match .keys10)) (λ c. is (c .match .keys11)) (λ c. is (c .match .keys12))
+    (λ c. is (c .match .keys13)) (λ c. is (c .match .keys14)) (λ c. is (c .match .keys15)) (λ c. is (c .match .keys16))
+    (λ c. is (c .match .keys17)) (λ c. is (c .match .keys18)) (λ c. is (c .match .keys19)) (λ c. is (c .match .keys20))
+    (λ c. is (c .match .keys21)) (λ c. is (c .match .keys22)) (λ c. is (c .match .keys23)) (λ c. is (c .match .keys24))
+    (λ c. is (c .match .keys25)) (λ c. is (c .match .keys26)) (λ c. is (c .match .keys27)) (λ c. is (c .match .keys28))
+    (λ c. is (c .match .keys29)) (λ c. is (c .match .keys30)) (λ c. is (c .match .keys31)) (λ c. is (c .match .keys32))
+    (λ c. is (c .match .keys33)) (λ c. is (c .match .keys34)) (λ c. is (c .match .keys35)) (λ c. is (c .match .keys36))
+    (λ c. is (c .match .keys37)) (λ c. is (c .match .keys38))
+    last)
