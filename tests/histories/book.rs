@@ -1,4 +1,4 @@
-// The book as a plain list of frames, and the bytes that document 01 gives it. Written from document 01 alone.
+// The book as a plain list of frames, and the bytes that the format gives it. Written from the rules alone, without the source.
 use crate::model::{commands, decode, Decoded};
 use crate::record::{Record, LENT};
 
