@@ -104,7 +104,7 @@ static void compare(const char *name, on_book f, on_book g) {
         if (x < hb) hb = x;
         if (y < rs) rs = y;
     }
-    report(name, ratios, hb, rs);
+    report(name, ratios, hb, rs, ROUNDS * SETS);
 }
 
 // All that such an ask does is to judge the book.

@@ -26,7 +26,7 @@ const SLOTS: [u8; 40] = {
     slots
 };
 
-fn slot_of(kind: u64) -> Result<usize, Refusal> {
+pub fn slot_of(kind: u64) -> Result<usize, Refusal> {
     match SLOTS.get(kind as usize) {
         Some(slot) if *slot != 255 => Ok(*slot as usize),
         _ => Err((13, 0)),

@@ -1,6 +1,6 @@
 // Calls the port (hb_..) and the Rust (rs_..) on the same arguments in one process, checks that both answer the same, and prints for each
 // function the ratio of their times: the median over REPEATS, and the least and the greatest. bench/generate.py fills the gaps, and
-// bench/book.c has the book.
+// bench/book.c has the book, bench/play.c the playback.
 typedef unsigned char u8;
 typedef unsigned long u64;
 typedef struct { long sec, nsec; } timespec;
@@ -71,7 +71,7 @@ static double timed_reader(reader f, int size) {
     return now() - t;
 }
 
-static void report(const char *name, double *ratios, double hb, double rs) {
+static void report(const char *name, double *ratios, double hb, double rs, int calls) {
     for (int i = 1; i < REPEATS; i++)
         for (int j = i; j > 0 && ratios[j - 1] > ratios[j]; j--) {
             double x = ratios[j];
@@ -79,7 +79,7 @@ static void report(const char *name, double *ratios, double hb, double rs) {
             ratios[j - 1] = x;
         }
     printf("%s %.2f %.2f %.2f %.2f %.2f\n", name, ratios[REPEATS / 2], ratios[0], ratios[REPEATS - 1],
-        hb / (ROUNDS * SETS), rs / (ROUNDS * SETS));
+        hb / calls, rs / calls);
 }
 
 // Good frames of every kind, one after another, as a reel has them; each builder of the port makes them.
@@ -114,10 +114,11 @@ static void decoders(double *ratios) {
         if (x < hb) hb = x;
         if (y < rs) rs = y;
     }
-    report("decode, frames of all kinds in turn", ratios, hb, rs);
+    report("decode, frames of all kinds in turn", ratios, hb, rs, ROUNDS * SETS);
 }
 
 #include "../../bench/book.c"
+#include "../../bench/play.c"
 
 int main(void) {
     double ratios[REPEATS];
@@ -137,7 +138,7 @@ int main(void) {
             if (x < hb) hb = x;
             if (y < rs) rs = y;
         }
-        report(b->name, ratios, hb, rs);
+        report(b->name, ratios, hb, rs, ROUNDS * SETS);
     }
     for (u64 k = 0; k < sizeof readings / sizeof *readings; k++) {
         const reading *g = &readings[k];
@@ -149,9 +150,10 @@ int main(void) {
             if (x < hb) hb = x;
             if (y < rs) rs = y;
         }
-        report(g->name, ratios, hb, rs);
+        report(g->name, ratios, hb, rs, ROUNDS * SETS);
     }
     decoders(ratios);
     books();
+    plays();
     return 0;
 }

@@ -65,38 +65,51 @@ macro_rules! response {
     };
 }
 
-response!(rs_lora_rx_stats, cmd_lora::LoraRxStatsRsp, 12, |r| {
+fn mixed_lora_rx_stats(r: &mut cmd_lora::LoraRxStatsRsp) -> u64 {
     mixed(r.status()) ^ ((r.pkt_rx() as u64) << 1) ^ ((r.crc_error() as u64) << 2)
         ^ ((r.header_error() as u64) << 3) ^ ((r.detection() as u64) << 4)
         ^ ((r.false_sync() as u64) << 5)
-});
-response!(rs_lora_packet_status, cmd_lora::LoraPacketStatusRsp, 8, |r| {
+}
+response!(rs_lora_rx_stats, cmd_lora::LoraRxStatsRsp, 12, mixed_lora_rx_stats);
+
+fn mixed_lora_packet_status(r: &mut cmd_lora::LoraPacketStatusRsp) -> u64 {
     mixed(r.status()) ^ ((r.crc() as u64) << 1) ^ ((r.coding_rate() as u64) << 2)
         ^ ((r.pkt_length() as u64) << 3) ^ (((r.snr_pkt() < 0) as u64) << 4)
         ^ ((r.rssi_pkt() as u64) << 5) ^ ((r.rssi_signal_pkt() as u64) << 6)
         ^ ((r.detector() as u64) << 7)
-});
-response!(rs_fsk_rx_stats, cmd_fsk::FskRxStatsRsp, 16, |r| {
+}
+response!(rs_lora_packet_status, cmd_lora::LoraPacketStatusRsp, 8, mixed_lora_packet_status);
+
+fn mixed_fsk_rx_stats(r: &mut cmd_fsk::FskRxStatsRsp) -> u64 {
     mixed(r.status()) ^ ((r.pkt_rx() as u64) << 1) ^ ((r.crc_error() as u64) << 2)
         ^ ((r.len_error() as u64) << 3) ^ ((r.pbl_det() as u64) << 4)
         ^ ((r.sync_ok() as u64) << 5) ^ ((r.sync_fail() as u64) << 6)
         ^ ((r.timeout() as u64) << 7)
-});
-response!(rs_fsk_packet_status, cmd_fsk::FskPacketStatusRsp, 8, |r| {
+}
+response!(rs_fsk_rx_stats, cmd_fsk::FskRxStatsRsp, 16, mixed_fsk_rx_stats);
+
+fn mixed_fsk_packet_status(r: &mut cmd_fsk::FskPacketStatusRsp) -> u64 {
     mixed(r.status()) ^ ((r.pkt_len() as u64) << 1) ^ ((r.rssi_avg() as u64) << 2)
         ^ ((r.rssi_sync() as u64) << 3) ^ ((r.addr_match_bcast() as u64) << 4)
         ^ ((r.addr_match_node() as u64) << 5) ^ ((r.lqi() as u64) << 6)
-});
-response!(rs_rssi_inst, cmd_common::RssiInstRsp, 4, |r| {
+}
+response!(rs_fsk_packet_status, cmd_fsk::FskPacketStatusRsp, 8, mixed_fsk_packet_status);
+
+fn mixed_rssi_inst(r: &mut cmd_common::RssiInstRsp) -> u64 {
     mixed(r.status()) ^ ((r.rssi() as u64) << 1)
-});
-response!(rs_timestamp_value, cmd_common::TimestampValueRsp, 6, |r| {
+}
+response!(rs_rssi_inst, cmd_common::RssiInstRsp, 4, mixed_rssi_inst);
+
+fn mixed_timestamp_value(r: &mut cmd_common::TimestampValueRsp) -> u64 {
     mixed(r.status()) ^ ((r.timestamp() as u64) << 1)
-});
-response!(rs_cca_result, cmd_common::CcaResultRsp, 6, |r| {
+}
+response!(rs_timestamp_value, cmd_common::TimestampValueRsp, 6, mixed_timestamp_value);
+
+fn mixed_cca_result(r: &mut cmd_common::CcaResultRsp) -> u64 {
     mixed(r.status()) ^ ((r.rssi_min() as u64) << 1) ^ ((r.rssi_max() as u64) << 2)
         ^ ((r.rssi_avg() as u64) << 3)
-});
+}
+response!(rs_cca_result, cmd_common::CcaResultRsp, 6, mixed_cca_result);
 
 // ---- the decoder, beside one written by hand
 
@@ -151,6 +164,27 @@ pub unsafe extern "C" fn rs_ask(book: *const u8, n: usize, kind: u64, out: *mut 
 #[no_mangle]
 pub unsafe extern "C" fn rs_replay(book: *const u8, n: usize, out: *mut u8, m: usize) -> u64 {
     told(book::replay(from_raw_parts(book, n), from_raw_parts_mut(out, m)))
+}
+
+// ---- a recorded day, beside one written by hand
+
+#[path = "../../bench/play.rs"]
+mod play;
+
+fn mixed_day(d: &mut play::Day) -> u64 {
+    let mut mix = d.refusal as u64 ^ ((d.place as u64) << 4) ^ (d.records << 8) ^ (d.accepted << 12) ^ (d.skipped << 16);
+    for (i, n) in d.refused.iter().enumerate() {
+        mix ^= n << (20 + i);
+    }
+    mix ^= d.lora_rx_stats.as_mut().map_or(0, mixed_lora_rx_stats) << 1;
+    mix ^= d.lora_packet_status.as_mut().map_or(0, mixed_lora_packet_status) << 2;
+    mix ^= d.fsk_rx_stats.as_mut().map_or(0, mixed_fsk_rx_stats) << 3;
+    mix ^ d.fsk_packet_status.as_mut().map_or(0, mixed_fsk_packet_status) << 4
+}
+
+#[no_mangle]
+pub unsafe extern "C" fn rs_played(trace: *const u8, n: usize, book: *mut u8, m: usize) -> u64 {
+    mixed_day(&mut play::play(from_raw_parts(trace, n), from_raw_parts_mut(book, m)))
 }
 
 // ---- builders

@@ -1,10 +1,10 @@
-/* Hoardbutton for C: frames of the LR2021 radio, its status and responses, a settings book in a lent buffer, reels and dumps.
+/* Hoardbutton for C: frames of the LR2021 radio, its status and responses, a settings book in a lent buffer, recorded days, reels and dumps.
  *
  * Every function answers every input; none traps, allocates, keeps a pointer or touches a global, so all may be called from several threads
  * and from an interrupt at the same time, as long as no buffer is written by one call while another has it. A refusal is one of
- * HB_REFUSED_.., 0 where there is none; a refused call alters no buffer that it was lent, and all else in its answer is 0 but the place. A
- * caller owes two things: a pointer has as many elements as its length says (it may be null where that is 0), and buffers lent to one call
- * do not overlap.
+ * HB_REFUSED_.., 0 where there is none; a refused call alters no buffer that it was lent, and all else in its answer is 0 but the place.
+ * hb_play is the one exception: on 15 it gives what the records before the fault have made. A caller owes two things: a pointer has as many
+ * elements as its length says (it may be null where that is 0), and buffers lent to one call do not overlap.
  *
  * A kind is a command's number, HB_SET_RF_FREQUENCY and so on. A frame is the bytes of one command. Settings are the kinds that a book
  * keeps; the others are actions. docs/REFERENCE.md has the bytes of all. The constants here come from docs/commands.json by
@@ -40,7 +40,7 @@ extern "C" {
 /* An output of so many bytes takes the dump of any reel of n bytes. */
 #define HB_DUMP_MAX(n) (HB_DUMP_BYTE_MAX * (n))
 
-/* ---- refusals: each with what it says; the place is 0 but for 4, 5 and 6 */
+/* ---- refusals: each with what it says; the place is 0 but for 4, 5, 6 and 15 */
 
 /* from commands.json: refusals */
 #define HB_REFUSED_SHORT_FRAME 1 /* a frame has fewer than two bytes */
@@ -57,6 +57,7 @@ extern "C" {
 #define HB_REFUSED_OUTPUT_SHORT 12 /* the output is too short for what has to be written */
 #define HB_REFUSED_NOT_A_KIND 13 /* there is no such kind, or the book was given an action */
 #define HB_REFUSED_REEL_CUT 14 /* the reel breaks off within a frame, or the place lies behind it */
+#define HB_REFUSED_TRACE_FAULT 15 /* a trace's header or one of its records breaks off, its first record would stand within the header, or a direction is neither 0 nor 1; place: the byte of the trace where the record starts, from 0; 0 for the header */
 /* end: refusals */
 
 /* ---- kinds: each with its arguments in their order. A code is one of the constants named, a yes is 1 and a no is 0; hb_plain takes any
@@ -767,6 +768,27 @@ typedef struct hb_cca_result_t {
     uint16_t status, rssi_min, rssi_max, rssi_avg;
 } hb_cca_result_t;
 hb_cca_result_t hb_cca_result(const uint8_t *bytes, size_t len);
+
+/* ---- a recorded day, played again on a fresh book */
+
+/* Why the playback ended, the counts, and the last reading of each request. records: played in all, before a fault if there is one. accepted
+ * and refused[n]: puts, refused ones by their number (1 to 5 and 8; the others stay 0). skipped: answers that are no reading. A reading is
+ * zeros where its has_.. is false. */
+typedef struct hb_day {
+    uint32_t refusal;
+    uint64_t place, records, accepted, skipped, refused[9];
+    bool has_lora_rx_stats, has_lora_packet_status, has_fsk_rx_stats, has_fsk_packet_status;
+    hb_lora_rx_stats_t lora_rx_stats;
+    hb_lora_packet_status_t lora_packet_status;
+    hb_fsk_rx_stats_t fsk_rx_stats;
+    hb_fsk_packet_status_t fsk_packet_status;
+} hb_day;
+
+/* Makes a fresh book in the buffer, whatever stood there, and plays a trace on it: every command sent is put unless it is an action, and every
+ * answer received is read as that of the latest command, if that was HB_GET_LORA_RX_STATS, HB_GET_LORA_PACKET_STATUS, HB_GET_FSK_RX_STATS or
+ * HB_GET_FSK_PACKET_STATUS and the length is right. Refuses 11, 15. What the records before a fault did stays: 15 is the one refusal that
+ * alters a lent buffer, and that has more in its answer than a place. */
+hb_day hb_play(const uint8_t *trace, size_t len, uint8_t *book, size_t book_len);
 
 /* ---- readings */
 

@@ -2,6 +2,12 @@
 import os
 
 HERE = os.path.dirname(os.path.abspath(__file__))
-DUMP = [os.path.join(HERE, "..", "target", "bin", "dump")]
-if os.uname().machine != "x86_64":
-    DUMP = ["sh", os.path.join(HERE, "run-rattle")] + DUMP
+
+
+def command(name):
+    """The words that run it."""
+    words = [os.path.join(HERE, "..", "target", "bin", name)]
+    return words if os.uname().machine == "x86_64" else ["sh", os.path.join(HERE, "run-rattle")] + words
+
+
+DUMP = command("dump")

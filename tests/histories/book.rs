@@ -146,7 +146,7 @@ impl Book {
             Record::Put { frame } => self.put(frame, frames),
             Record::Clear => self.holds(vec![]),
             Record::Replay { .. } => {
-                let reel: Vec<u8> = frames.iter().flat_map(|f| std::iter::once(f.bytes.len() as u8).chain(f.bytes.iter().copied())).collect();
+                let reel: Vec<u8> = frames.iter().flat_map(|f| core::iter::once(f.bytes.len() as u8).chain(f.bytes.iter().copied())).collect();
                 self.write(&reel)
             }
             Record::Remove { kind } => match held(*kind, &frames) {

@@ -1,6 +1,7 @@
 // The answers of the program beside those of the list, record by record.
 use crate::book::{Answer, Book, SETTINGS};
-use crate::record::{hex, read, Record};
+use crate::file::read;
+use crate::record::{hex, Record};
 use std::io::{BufRead, BufReader, Read, Result, Write};
 
 const CALLS: [(&str, &[u8]); 6] = [

@@ -8,8 +8,11 @@
 #![allow(dead_code)]
 
 mod book;
+mod called;
 mod compare;
 mod enums;
+mod file;
+mod frames;
 mod make;
 mod record;
 
@@ -36,14 +39,5 @@ fn run(words: &[&str]) -> Result<bool> {
 }
 
 fn main() {
-    let words: Vec<String> = std::env::args().skip(1).collect();
-    let words: Vec<&str> = words.iter().map(String::as_str).collect();
-    match run(&words) {
-        Ok(true) => {}
-        Ok(false) => std::process::exit(1),
-        Err(why) => {
-            eprintln!("histories: {}", why);
-            std::process::exit(1)
-        }
-    }
+    called::called("histories", run)
 }

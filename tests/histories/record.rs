@@ -1,9 +1,5 @@
 // The records of a history, in words and in bytes. tests/README.md has their form.
-use std::io::{Result, Write};
-
 pub const HEAD: usize = 12;
-// No record crosses a multiple of so many bytes.
-pub const BLOCK: usize = 65536;
 // The longest output that is lent.
 pub const LENT: usize = 512;
 
@@ -21,7 +17,7 @@ pub enum Record {
 use Record::*;
 
 impl Record {
-    fn bytes(&self) -> Vec<u8> {
+    pub fn bytes(&self) -> Vec<u8> {
         let (operation, size, kind, data): (u8, usize, u64, &[u8]) = match self {
             Lend { length, first } => (1, *length, *first as u64, &[]),
             Poke { at, data } => (2, *at, 0, data),
@@ -39,7 +35,7 @@ impl Record {
         bytes
     }
 
-    fn of(bytes: &[u8]) -> Record {
+    pub fn of(bytes: &[u8]) -> Record {
         let size = u16::from_be_bytes([bytes[2], bytes[3]]) as usize;
         let kind = bytes[4..HEAD].iter().fold(0, |n, b| n << 8 | *b as u64);
         let data = bytes[HEAD..].to_vec();
@@ -72,45 +68,4 @@ impl Record {
 
 pub fn hex(bytes: &[u8]) -> String {
     bytes.iter().map(|b| format!("{:02x}", b)).collect::<Vec<_>>().join(" ")
-}
-
-pub struct Records<W: Write> {
-    to: W,
-    at: usize,
-}
-
-impl<W: Write> Records<W> {
-    pub fn new(to: W) -> Self {
-        Records { to, at: 0 }
-    }
-
-    // A record that would cross the end of a block stands behind it, and zeros fill the block up.
-    pub fn write(&mut self, record: &Record) -> Result<()> {
-        let bytes = record.bytes();
-        let left = BLOCK - self.at % BLOCK;
-        if left < bytes.len() {
-            self.to.write_all(&vec![0; left])?;
-            self.at += left;
-        }
-        self.at += bytes.len();
-        self.to.write_all(&bytes)
-    }
-
-    pub fn flush(&mut self) -> Result<()> {
-        self.to.flush()
-    }
-}
-
-pub fn read(bytes: &[u8]) -> impl Iterator<Item = Record> + '_ {
-    bytes.chunks(BLOCK).flat_map(|block| {
-        let mut at = 0;
-        std::iter::from_fn(move || {
-            if block.len() - at < HEAD || block[at] == 0 {
-                return None;
-            }
-            let from = at;
-            at += HEAD + block[at + 1] as usize;
-            Some(Record::of(&block[from..at]))
-        })
-    })
 }

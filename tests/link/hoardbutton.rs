@@ -26,6 +26,9 @@ structs! {
     RssiInst { refusal: u32, status: u16, rssi: u16 }
     TimestampValue { refusal: u32, status: u16, timestamp: u32 }
     CcaResult { refusal: u32, status: u16, rssi_min: u16, rssi_max: u16, rssi_avg: u16 }
+    Day { refusal: u32, place: u64, records: u64, accepted: u64, skipped: u64, refused: [u64; 9], has_lora_rx_stats: bool,
+        has_lora_packet_status: bool, has_fsk_rx_stats: bool, has_fsk_packet_status: bool, lora_rx_stats: LoraRxStats,
+        lora_packet_status: LoraPacketStatus, fsk_rx_stats: FskRxStats, fsk_packet_status: FskPacketStatus }
 }
 
 // A declaration, and a wrapper that calls it with these arguments.
@@ -68,4 +71,5 @@ functions! {
     rx_bw_tenths(code: u8) -> u16 = hb_rx_bw_tenths(u8 = code);
     reel_step(r: &[u8], at: u64) -> Step = hb_reel_step(*const u8 = r.as_ptr(), usize = r.len(), u64 = at);
     dump(r: &[u8], out: &mut [u8]) -> Answer = hb_dump(*const u8 = r.as_ptr(), usize = r.len(), *mut u8 = out.as_mut_ptr(), usize = out.len());
+    play(t: &[u8], b: &mut [u8]) -> Day = hb_play(*const u8 = t.as_ptr(), usize = t.len(), *mut u8 = b.as_mut_ptr(), usize = b.len());
 }

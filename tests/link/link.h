@@ -41,5 +41,5 @@ void builds(builder *build, uint64_t kind, const char *args, const char *frame, 
 void builds_rows(builder *build);
 
 void test_frames(void), test_books(void), test_radio(void), test_readings(void), test_reels(void), test_rust(void);
-/* The tests of hb_plain: those of C call those of Rust. The tests of the header's names. */
-void test_plain(void), test_rust_plain(void), test_names(void);
+/* The tests of hb_plain and hb_play: those of C call those of Rust. The tests of the header's names. */
+void test_plain(void), test_rust_plain(void), test_plays(void), test_rust_plays(void), test_names(void);

@@ -142,6 +142,8 @@ static void refusals(void) {
     same("unknown code", hb_decode((const uint8_t *)"\x02\x20\x40\x10", 4).refusal, HB_REFUSED_UNKNOWN_CODE);
     same("response's length", hb_rssi_inst((const uint8_t *)"\0\0\0", 3).refusal, HB_REFUSED_RESPONSE_LENGTH);
     same("cut reel", hb_reel_step((const uint8_t *)"\x02\x28", 2, 0).refusal, HB_REFUSED_REEL_CUT);
+    uint8_t book[HB_BOOK_MIN];
+    same("faulty trace", hb_play(NULL, 0, book, sizeof book).refusal, HB_REFUSED_TRACE_FAULT);
 }
 
 static hb_status_t word(unsigned high, unsigned low) {

@@ -29,6 +29,30 @@ mod hoardbutton;
 mod model;
 #[path = "plain.rs"]
 mod plain;
+#[path = "plays.rs"]
+mod plays;
+
+// Of the other tests: the plain list, random frames, and the model of playback.
+mod book {
+    use alloc::vec::Vec;
+    include!("../histories/book.rs");
+}
+mod record {
+    use alloc::{string::String, vec::Vec};
+    include!("../histories/record.rs");
+}
+mod frames {
+    use alloc::vec::Vec;
+    include!("../histories/frames.rs");
+}
+mod day {
+    use alloc::vec::Vec;
+    include!("../playback/day.rs");
+}
+mod make {
+    use alloc::vec::Vec;
+    include!("../playback/make.rs");
+}
 
 // The Rust's own enums give the codes, if they are beside the repository. model.rs and builders.rs find Vec and Box here.
 mod enums {

@@ -4,6 +4,7 @@ use crate::coded::{CHECKED, DECODE};
 use crate::enums::RX_BW;
 use crate::model::{checked, decode, Built, Decoded};
 use crate::sets::RESPONSES;
+use crate::texts::{level, ratio};
 use crate::{ANSWER, PAYLOAD};
 
 // Bytes of an answer: numbers low byte first.
@@ -115,18 +116,6 @@ fn half(payload: &[u8; PAYLOAD], at: usize) -> u16 {
 fn text(to: &mut Vec<u8>, text: String) {
     to.push(text.len() as u8);
     to.extend(text.bytes());
-}
-
-// Halves and quarters are exact in binary, so the decimals asked for are all there are. A float's own zero could
-// print a minus, so the sign is written apart.
-fn level(count: u16) -> String {
-    let sign = if count > 0 { "-" } else { "" };
-    format!("{}{:.1}", sign, f64::from(count) / 2.0)
-}
-
-fn ratio(count: i8) -> String {
-    let sign = if count < 0 { "-" } else { "" };
-    format!("{}{:.2}", sign, f64::from(count).abs() / 4.0)
 }
 
 // The width of a code of RxBw in tenths of kHz, as its name has it: 40,000 kHz over m d 2^e, whole from 10 kHz on, and else the nearest tenth.

@@ -35,6 +35,7 @@ mod enums;
 mod model;
 mod sets;
 mod shown;
+mod texts;
 
 // What the Rust's lib.rs declares and status.rs uses.
 #[derive(Debug, Clone, Copy)]

@@ -97,7 +97,7 @@ fn number(text: &str) -> usize {
 }
 
 // The bits of a place such as "2.7-4", "5.2", "2-3", "4" or "2.3-0+3", the lowest first.
-fn bits_of(place: &str) -> Vec<(usize, u32)> {
+pub fn bits_of(place: &str) -> Vec<(usize, u32)> {
     if place == "none" {
         return vec![];
     }

@@ -2,6 +2,9 @@
 use Rattle.once.proofs.Once.{Once, same}
 use Rattle.book.proofs as book
 
+ready-once : Once book.ready.ended book.ready.Reads.Pre book.ready.Reads.Learnt
+ready-once κs a h o u p q i = (same p q i, o .1)
+
 make-once : Once book.make.ended book.make.Reads.Pre book.make.Reads.Learnt
 make-once κs a h o u p q i = (same (p .0) (q .0) i, (same (p .1) (q .1) i, o .1 .1))
 

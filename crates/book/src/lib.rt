@@ -41,7 +41,7 @@ fn byte_to_usize(x: u8) -> usize
 }
 
 // Whether the bytes are a book that a call may use: every refusal of a whole book is given here.
-fn ready(book: &[u8]) -> Answer
+pub fn ready(book: &[u8]) -> Answer
     ensures { λ r. ⌜ r ≡ verdict (opened ours (now (book .entry))) ⌝ }
 {
     match contents::check(book, VERSION, SLOTS) {

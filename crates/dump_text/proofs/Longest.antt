@@ -11,7 +11,7 @@ use lib.Dec.{T, leb, ltb, leb→le, ltb→lt}
 use lib.ListN.{length, getD, length-append}
 use Rattle.refusal.specs.declared.Refusal.{Refusal}
 use Rattle.refusal.specs.declared.Refusal.the-variants.{ShortFrame, UnknownOpcode, WrongLength, StrayBit, UnknownCode, ArgumentOutside, ResponseLength}
-use Rattle.refusal.specs.declared.Refusal.the-variants.{NoRoom, NotHeld, NotWellFormed, BufferSize, OutputShort, NotAKind, ReelCut}
+use Rattle.refusal.specs.declared.Refusal.the-variants.{NoRoom, NotHeld, NotWellFormed, BufferSize, OutputShort, NotAKind, ReelCut, TraceFault}
 use Rattle.refusal.specs.Numbers.{numberOf, placeOf}
 use Rattle.frame.specs.Field.{mask, part, read, readTo}
 use Rattle.frame.specs.Layout.{fitting, tab, tabFrom, maskOf, reads}
@@ -121,6 +121,7 @@ number-short BufferSize = omega arith
 number-short OutputShort = omega arith
 number-short NotAKind = omega arith
 number-short ReelCut = omega arith
+number-short (TraceFault at) = omega arith
 
 pub refusal-longest : (index : ℕ) (why : Refusal) → length (lineOf index (refuses why)) ≤ longest
 unfolding blanked

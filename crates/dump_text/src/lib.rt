@@ -9,8 +9,8 @@ ghost use Rattle.reading.specs.Decimal.{digit, decimal};
 ghost use Rattle.decoder.specs.Decoding.{reading, refuses, decode};
 ghost use Rattle.reel.specs.Reel.{unreel};
 ghost use Rattle.dump_text.specs.Text.{blanked, headOf, lineOf, textOf};
-ghost use Rattle.dump_text.specs.Parts.{goesOn, linesOf, Puts, Passes};
-ghost use Rattle.dump_text.specs.Whole.{dumped, filled, laidAt, Lays};
+ghost use Rattle.dump_text.specs.Parts.{longest, goesOn, linesOf, Puts, Passes};
+ghost use Rattle.dump_text.specs.Whole.{dumped, filled, laidAt, Lays, told, laid};
 use decoder::Answer;
 use reel::Cursor;
 use reel::Step;
@@ -133,6 +133,18 @@ fn put_line(out: &mut [u8], at: usize, index: u64, frame: &[u8]) -> usize
         }
         Answer::Refused(why) => put_refusal(out, at, index, why),
     }
+}
+
+// The line of one frame at the start of `out`: the answer is how long it is, 0 where the output lacks room for the longest and is left alone.
+pub fn line(index: u64, frame: &[u8], out: &mut [u8]) -> usize
+    ensures { λ r. ⌜ r ≡ told longest (lineOf index (decode (now (frame .entry)))) (now (out .entry)) ⌝ }
+    ensures { λ _. ⌜ now (out .exit) ≡ laid longest (lineOf index (decode (now (frame .entry)))) (now (out .entry)) ⌝ }
+    ensures { λ r. ⌜ r ≤ length (now (out .entry)) ⌝ }
+{
+    if out.len() < LONGEST {
+        return 0;
+    }
+    put_line(out, 0, index, frame)
 }
 
 // ---- passes

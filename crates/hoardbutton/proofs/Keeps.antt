@@ -1,9 +1,13 @@
 -- A call that gives C a refusal leaves every buffer that it was lent as it was (REFERENCE, "Refusals").
 -- Assumes nothing.
-use mathlib.Core.Path.{_≡_, refl}
+use mathlib.Core.Path.{_≡_, ap, refl}
 use mathlib.Core.List.{List}
 use Prim.Native.Nat.{ℕ, _<_}
 use native.Mathlib.Omega.{arith}
+use mathlib.Core.Logic.{_⊎_, inl, inr}
+use Rattle.refusal.specs.declared.Refusal.{Refusal}
+use Rattle.refusal.specs.declared.Refusal.the-variants.{BufferSize, TraceFault}
+use Rattle.refusal.specs.Numbers.{numberOf}
 use Rattle.dump_text.specs.declared.Dumped.{Dumped}
 use Rattle.dump_text.specs.declared.Dumped.the-variants as dump
 use Rattle.dump_text.specs.Whole.{dumped, filled}
@@ -14,7 +18,10 @@ use Rattle.book.specs.Book.{ours}
 use Rattle.book.specs.History.{Call, after}
 use Rattle.contents.proofs.Judged.{Bytes}
 use Rattle.book.proofs.Keeps.{lentTo, refused-keeps}
+use Rattle.playback.specs.Plays.{plays}
+use Rattle.playback.proofs.Laws.{play-keeps as day-keeps}
 use Rattle.hoardbutton.specs.Books.{answerC}
+use Rattle.hoardbutton.specs.Plays.{dayC, refusalIn}
 use Rattle.hoardbutton.specs.Reels.{dumpC, textC}
 
 -- `hb_level_text`, `hb_snr_text`, `hb_dump`
@@ -32,3 +39,15 @@ book-keeps c b B = by (after ours c b .answer) refl
     by : (a : Answer) → after ours c b .answer ≡ a → 0 < answerC a .refusal → (after ours c b .output ≡ lentTo c) × (after ours c b .bytes ≡ b)
     by (Done n) e q = absurd (omega arith)
     by (Refused x) e q = refused-keeps ours c b B x e
+
+-- `hb_play`: by its own refusal, 11, nothing is altered. By 15 the book is that of the records before the fault: the one refusal that alters.
+pub play-keeps : (t b : List ℕ) → dayC (plays t b .played) .refusal ≡ 11 → plays t b .bytes ≡ b
+play-keeps t b = by (plays t b .played .answer) refl
+  where
+    by : (a : Answer) → plays t b .played .answer ≡ a → refusalIn a ≡ 11 → plays t b .bytes ≡ b
+    by (Done n) e q = absurd (omega (arith, q))
+    by (Refused x) e q = own (day-keeps t b x e)
+      where
+        own : ((x ≡ BufferSize) × (plays t b .bytes ≡ b)) ⊎ ((p : ℕ) × (x ≡ TraceFault p)) → plays t b .bytes ≡ b
+        own (inl k) = k .1
+        own (inr k) = absurd (let n : numberOf x ≡ 15 = ap numberOf (k .1) in omega (arith, n, q))

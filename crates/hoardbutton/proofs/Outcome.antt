@@ -86,3 +86,8 @@ hb-dump-once κs a h o u p q i = (same (p .0) (q .0) i, (o .1 .0, (same (p .1) (
 
 hb-book-ask-once : Once hoardbutton.books.hb_book_ask.ended hoardbutton.books.hb_book_ask.Reads.Pre hoardbutton.books.hb_book_ask.Reads.Learnt
 hb-book-ask-once κs a h o u p q i = (same (p .0) (q .0) i, (o .1 .0, (o .1 .1 .0, (same (p .1) (q .1) i, o .1 .1 .1 .1))))
+
+-- ---- plays
+
+hb-play-once : Once hoardbutton.plays.hb_play.ended hoardbutton.plays.hb_play.Reads.Pre hoardbutton.plays.hb_play.Reads.Learnt
+hb-play-once κs a h o u p q i = (same (p .0) (q .0) i, (o .1 .0, (same (p .1) (q .1) i, o .1 .1 .1)))

@@ -4,3 +4,4 @@ pub mod Books
 pub mod Radio
 pub mod Readings
 pub mod Reels
+pub mod Plays

@@ -3,6 +3,7 @@
 pub mod answers;
 pub mod books;
 pub mod frames;
+pub mod plays;
 pub mod radio;
 pub mod readings;
 pub mod reels;

@@ -6,6 +6,7 @@ ghost use Rattle.cmd_lora.specs.Responses.{loraRxStatsRead, loraPacketStatusRea
 ghost use Rattle.cmd_fsk.specs.Responses.{fskRxStatsRead, fskPacketStatusRead};
 ghost use Rattle.cmd_common.specs.Responses.{rssiInstRead, timestampValueRead, ccaResultRead};
 ghost use Rattle.hoardbutton.specs.Radio.{statusC, loraRxStatsC, loraPacketStatusC, fskRxStatsC, fskPacketStatusC, rssiInstC, timestampValueC, ccaResultC};
+ghost use Rattle.hoardbutton.specs.Radio.{loraRxStatsNone, loraPacketStatusNone, fskRxStatsNone, fskPacketStatusNone};
 use crate::answers::low;
 use cmd_common::rsp::CcaResultRead;
 use cmd_common::rsp::CcaResultRsp;
@@ -92,30 +93,43 @@ pub struct HbLoraRxStats {
     pub false_sync: u16,
 }
 
+// A reading, and none beside a refusal.
+pub(crate) fn lora_rx_stats_of(rsp: LoraRxStatsRsp) -> HbLoraRxStats
+    ensures { λ r. ⌜ r ≡ loraRxStatsC (LoraRxStatsRead.Rsp rsp) ⌝ }
+{
+    HbLoraRxStats {
+        refusal: 0,
+        status: rsp.status.0,
+        pkt_rx: rsp.pkt_rx,
+        crc_error: rsp.crc_error,
+        header_error: rsp.header_error,
+        detection: rsp.detection,
+        false_sync: rsp.false_sync,
+    }
+}
+
+pub(crate) fn lora_rx_stats_none(refusal: u32) -> HbLoraRxStats
+    ensures { λ r. ⌜ r ≡ loraRxStatsNone refusal ⌝ }
+{
+    HbLoraRxStats {
+        refusal,
+        status: 0,
+        pkt_rx: 0,
+        crc_error: 0,
+        header_error: 0,
+        detection: 0,
+        false_sync: 0,
+    }
+}
+
 #[no_mangle]
 pub extern "C" fn hb_lora_rx_stats(bytes: &[u8]) -> HbLoraRxStats
     ensures { λ r. ⌜ r ≡ loraRxStatsC (loraRxStatsRead (now (bytes .entry))) ⌝ }
 {
     let read = LoraRxStatsRsp::from_slice(bytes);
     match read {
-        LoraRxStatsRead::Rsp(rsp) => HbLoraRxStats {
-            refusal: 0,
-            status: rsp.status.0,
-            pkt_rx: rsp.pkt_rx,
-            crc_error: rsp.crc_error,
-            header_error: rsp.header_error,
-            detection: rsp.detection,
-            false_sync: rsp.false_sync,
-        },
-        LoraRxStatsRead::Refused(why) => HbLoraRxStats {
-            refusal: why.number(),
-            status: 0,
-            pkt_rx: 0,
-            crc_error: 0,
-            header_error: 0,
-            detection: 0,
-            false_sync: 0,
-        },
+        LoraRxStatsRead::Rsp(rsp) => lora_rx_stats_of(rsp),
+        LoraRxStatsRead::Refused(why) => lora_rx_stats_none(why.number()),
     }
 }
 
@@ -132,34 +146,47 @@ pub struct HbLoraPacketStatus {
     pub detector: u8,
 }
 
+// A reading, and none beside a refusal.
+pub(crate) fn lora_packet_status_of(rsp: LoraPacketStatusRsp) -> HbLoraPacketStatus
+    ensures { λ r. ⌜ r ≡ loraPacketStatusC (LoraPacketStatusRead.Rsp rsp) ⌝ }
+{
+    HbLoraPacketStatus {
+        refusal: 0,
+        status: rsp.status.0,
+        crc: rsp.crc,
+        coding_rate: rsp.coding_rate,
+        pkt_length: rsp.pkt_length,
+        snr_pkt: rsp.snr_pkt.0,
+        rssi_pkt: rsp.rssi_pkt.0,
+        rssi_signal_pkt: rsp.rssi_signal_pkt.0,
+        detector: rsp.detector,
+    }
+}
+
+pub(crate) fn lora_packet_status_none(refusal: u32) -> HbLoraPacketStatus
+    ensures { λ r. ⌜ r ≡ loraPacketStatusNone refusal ⌝ }
+{
+    HbLoraPacketStatus {
+        refusal,
+        status: 0,
+        crc: false,
+        coding_rate: 0,
+        pkt_length: 0,
+        snr_pkt: 0,
+        rssi_pkt: 0,
+        rssi_signal_pkt: 0,
+        detector: 0,
+    }
+}
+
 #[no_mangle]
 pub extern "C" fn hb_lora_packet_status(bytes: &[u8]) -> HbLoraPacketStatus
     ensures { λ r. ⌜ r ≡ loraPacketStatusC (loraPacketStatusRead (now (bytes .entry))) ⌝ }
 {
     let read = LoraPacketStatusRsp::from_slice(bytes);
     match read {
-        LoraPacketStatusRead::Rsp(rsp) => HbLoraPacketStatus {
-            refusal: 0,
-            status: rsp.status.0,
-            crc: rsp.crc,
-            coding_rate: rsp.coding_rate,
-            pkt_length: rsp.pkt_length,
-            snr_pkt: rsp.snr_pkt.0,
-            rssi_pkt: rsp.rssi_pkt.0,
-            rssi_signal_pkt: rsp.rssi_signal_pkt.0,
-            detector: rsp.detector,
-        },
-        LoraPacketStatusRead::Refused(why) => HbLoraPacketStatus {
-            refusal: why.number(),
-            status: 0,
-            crc: false,
-            coding_rate: 0,
-            pkt_length: 0,
-            snr_pkt: 0,
-            rssi_pkt: 0,
-            rssi_signal_pkt: 0,
-            detector: 0,
-        },
+        LoraPacketStatusRead::Rsp(rsp) => lora_packet_status_of(rsp),
+        LoraPacketStatusRead::Refused(why) => lora_packet_status_none(why.number()),
     }
 }
 
@@ -176,34 +203,47 @@ pub struct HbFskRxStats {
     pub timeout: u16,
 }
 
+// A reading, and none beside a refusal.
+pub(crate) fn fsk_rx_stats_of(rsp: FskRxStatsRsp) -> HbFskRxStats
+    ensures { λ r. ⌜ r ≡ fskRxStatsC (FskRxStatsRead.Rsp rsp) ⌝ }
+{
+    HbFskRxStats {
+        refusal: 0,
+        status: rsp.status.0,
+        pkt_rx: rsp.pkt_rx,
+        crc_error: rsp.crc_error,
+        len_error: rsp.len_error,
+        pbl_det: rsp.pbl_det,
+        sync_ok: rsp.sync_ok,
+        sync_fail: rsp.sync_fail,
+        timeout: rsp.timeout,
+    }
+}
+
+pub(crate) fn fsk_rx_stats_none(refusal: u32) -> HbFskRxStats
+    ensures { λ r. ⌜ r ≡ fskRxStatsNone refusal ⌝ }
+{
+    HbFskRxStats {
+        refusal,
+        status: 0,
+        pkt_rx: 0,
+        crc_error: 0,
+        len_error: 0,
+        pbl_det: 0,
+        sync_ok: 0,
+        sync_fail: 0,
+        timeout: 0,
+    }
+}
+
 #[no_mangle]
 pub extern "C" fn hb_fsk_rx_stats(bytes: &[u8]) -> HbFskRxStats
     ensures { λ r. ⌜ r ≡ fskRxStatsC (fskRxStatsRead (now (bytes .entry))) ⌝ }
 {
     let read = FskRxStatsRsp::from_slice(bytes);
     match read {
-        FskRxStatsRead::Rsp(rsp) => HbFskRxStats {
-            refusal: 0,
-            status: rsp.status.0,
-            pkt_rx: rsp.pkt_rx,
-            crc_error: rsp.crc_error,
-            len_error: rsp.len_error,
-            pbl_det: rsp.pbl_det,
-            sync_ok: rsp.sync_ok,
-            sync_fail: rsp.sync_fail,
-            timeout: rsp.timeout,
-        },
-        FskRxStatsRead::Refused(why) => HbFskRxStats {
-            refusal: why.number(),
-            status: 0,
-            pkt_rx: 0,
-            crc_error: 0,
-            len_error: 0,
-            pbl_det: 0,
-            sync_ok: 0,
-            sync_fail: 0,
-            timeout: 0,
-        },
+        FskRxStatsRead::Rsp(rsp) => fsk_rx_stats_of(rsp),
+        FskRxStatsRead::Refused(why) => fsk_rx_stats_none(why.number()),
     }
 }
 
@@ -219,32 +259,45 @@ pub struct HbFskPacketStatus {
     pub lqi: u8,
 }
 
+// A reading, and none beside a refusal.
+pub(crate) fn fsk_packet_status_of(rsp: FskPacketStatusRsp) -> HbFskPacketStatus
+    ensures { λ r. ⌜ r ≡ fskPacketStatusC (FskPacketStatusRead.Rsp rsp) ⌝ }
+{
+    HbFskPacketStatus {
+        refusal: 0,
+        status: rsp.status.0,
+        pkt_len: rsp.pkt_len,
+        rssi_avg: rsp.rssi_avg.0,
+        rssi_sync: rsp.rssi_sync.0,
+        addr_match_bcast: rsp.addr_match_bcast,
+        addr_match_node: rsp.addr_match_node,
+        lqi: rsp.lqi,
+    }
+}
+
+pub(crate) fn fsk_packet_status_none(refusal: u32) -> HbFskPacketStatus
+    ensures { λ r. ⌜ r ≡ fskPacketStatusNone refusal ⌝ }
+{
+    HbFskPacketStatus {
+        refusal,
+        status: 0,
+        pkt_len: 0,
+        rssi_avg: 0,
+        rssi_sync: 0,
+        addr_match_bcast: false,
+        addr_match_node: false,
+        lqi: 0,
+    }
+}
+
 #[no_mangle]
 pub extern "C" fn hb_fsk_packet_status(bytes: &[u8]) -> HbFskPacketStatus
     ensures { λ r. ⌜ r ≡ fskPacketStatusC (fskPacketStatusRead (now (bytes .entry))) ⌝ }
 {
     let read = FskPacketStatusRsp::from_slice(bytes);
     match read {
-        FskPacketStatusRead::Rsp(rsp) => HbFskPacketStatus {
-            refusal: 0,
-            status: rsp.status.0,
-            pkt_len: rsp.pkt_len,
-            rssi_avg: rsp.rssi_avg.0,
-            rssi_sync: rsp.rssi_sync.0,
-            addr_match_bcast: rsp.addr_match_bcast,
-            addr_match_node: rsp.addr_match_node,
-            lqi: rsp.lqi,
-        },
-        FskPacketStatusRead::Refused(why) => HbFskPacketStatus {
-            refusal: why.number(),
-            status: 0,
-            pkt_len: 0,
-            rssi_avg: 0,
-            rssi_sync: 0,
-            addr_match_bcast: false,
-            addr_match_node: false,
-            lqi: 0,
-        },
+        FskPacketStatusRead::Rsp(rsp) => fsk_packet_status_of(rsp),
+        FskPacketStatusRead::Refused(why) => fsk_packet_status_none(why.number()),
     }
 }
 

@@ -4,7 +4,7 @@ use Prim.Native.Nat.{ℕ}
 use Rattle.refusal.specs.declared.Refusal.{Refusal}
 use Rattle.refusal.specs.declared.Refusal.the-variants.{ShortFrame, UnknownOpcode, WrongLength, StrayBit, UnknownCode}
 use Rattle.refusal.specs.declared.Refusal.the-variants.{ArgumentOutside, ResponseLength, NoRoom, NotHeld, NotWellFormed}
-use Rattle.refusal.specs.declared.Refusal.the-variants.{BufferSize, OutputShort, NotAKind, ReelCut}
+use Rattle.refusal.specs.declared.Refusal.the-variants.{BufferSize, OutputShort, NotAKind, ReelCut, TraceFault}
 
 abbrev pub numberOf : Refusal → ℕ
 -- a frame too short to hold an opcode
@@ -35,12 +35,16 @@ numberOf OutputShort = 12
 numberOf NotAKind = 13
 -- the reel ends before the frame does, or the place lies past its end
 numberOf ReelCut = 14
+-- the trace's header or the record at the place does not fit the trace, its first record would stand in the header, or a direction is none
+numberOf (TraceFault at) = 15
 
--- where: the lowest such byte of the frame, counted from 0; of arguments the first, counted from 1; 0 where there is no place to name
+-- where: the lowest such byte of the frame, counted from 0; of arguments the first, counted from 1; of a trace the byte where the faulty record
+-- starts, counted from 0, and 0 for its header; 0 where there is no place to name
 abbrev pub placeOf : Refusal → ℕ
 placeOf (StrayBit at) = at
 placeOf (UnknownCode at) = at
 placeOf (ArgumentOutside at) = at
+placeOf (TraceFault at) = at
 placeOf ShortFrame = 0
 placeOf UnknownOpcode = 0
 placeOf WrongLength = 0

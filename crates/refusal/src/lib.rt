@@ -2,7 +2,7 @@
 ghost use mathlib.Core.Path.{_≡_};
 ghost use Rattle.refusal.specs.Numbers.{numberOf, placeOf};
 
-// A refusal that has a place carries it: a byte of the frame from 0, or an argument from 1.
+// A refusal that has a place carries it: a byte of the frame or of the trace from 0, or an argument from 1.
 pub enum Refusal {
     ShortFrame,
     UnknownOpcode,
@@ -18,10 +18,11 @@ pub enum Refusal {
     OutputShort,
     NotAKind,
     ReelCut,
+    TraceFault(usize),
 }
 
 impl Refusal {
-    // Its number, 1 to 14.
+    // Its number, 1 to 15.
     pub fn number(self) -> u32
         ensures { λ r. ⌜ r ≡ numberOf self ⌝ }
     {
@@ -40,6 +41,7 @@ impl Refusal {
             Refusal::OutputShort => 12,
             Refusal::NotAKind => 13,
             Refusal::ReelCut => 14,
+            Refusal::TraceFault(_) => 15,
         }
     }
 
@@ -51,6 +53,7 @@ impl Refusal {
             Refusal::StrayBit(at) => at,
             Refusal::UnknownCode(at) => at,
             Refusal::ArgumentOutside(at) => at,
+            Refusal::TraceFault(at) => at,
             Refusal::ShortFrame => 0,
             Refusal::UnknownOpcode => 0,
             Refusal::WrongLength => 0,

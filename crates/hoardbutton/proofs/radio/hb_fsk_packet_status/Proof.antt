@@ -5,10 +5,11 @@ use Rattle.hoardbutton.proofs.radio.hb_fsk_packet_status.Statement.{sta
 use Rattle.hoardbutton.proofs.radio.hb_fsk_packet_status.Tie as tie
 
 returns : tie.Need-returns
-returns c = ap fskPacketStatusC (sym (c .before .read .given .1) ∙ c .before .before .before .from-slice .ensures)
+returns c = c .fsk-packet-status-of .ensures ∙ ap fskPacketStatusC (sym (c .before .before .read .given .1) ∙ c .before .before .before .before .from-slice .ensures)
 
 returns-2 : tie.Need-returns-2
-returns-2 c = ap fskPacketStatusNone (c .number .ensures) ∙ ap fskPacketStatusC (sym (c .before .before .read2 .given .1) ∙ c .before .before .before .before .from-slice .ensures)
+returns-2 c =
+    c .fsk-packet-status-none .ensures ∙ ap fskPacketStatusNone (c .before .number .ensures) ∙ ap fskPacketStatusC (sym (c .before .before .before .read2 .given .1) ∙ c .before .before .before .before .before .from-slice .ensures)
 
 pub hb-fsk-packet-status-spec : {M : Type 1} → statement M
-hb-fsk-packet-status-spec = tie.close (tie.spec (search needs) (search needs) (search needs) (search needs) returns returns-2)
+hb-fsk-packet-status-spec = tie.close (tie.spec (search needs) (search needs) (search needs) (search needs) (search needs) (search needs) returns returns-2)

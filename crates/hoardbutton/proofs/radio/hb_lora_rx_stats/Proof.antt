@@ -5,10 +5,11 @@ use Rattle.hoardbutton.proofs.radio.hb_lora_rx_stats.Statement.{stateme
 use Rattle.hoardbutton.proofs.radio.hb_lora_rx_stats.Tie as tie
 
 returns : tie.Need-returns
-returns c = ap loraRxStatsC (sym (c .before .read .given .1) ∙ c .before .before .before .from-slice .ensures)
+returns c = c .lora-rx-stats-of .ensures ∙ ap loraRxStatsC (sym (c .before .before .read .given .1) ∙ c .before .before .before .before .from-slice .ensures)
 
 returns-2 : tie.Need-returns-2
-returns-2 c = ap loraRxStatsNone (c .number .ensures) ∙ ap loraRxStatsC (sym (c .before .before .read2 .given .1) ∙ c .before .before .before .before .from-slice .ensures)
+returns-2 c =
+    c .lora-rx-stats-none .ensures ∙ ap loraRxStatsNone (c .before .number .ensures) ∙ ap loraRxStatsC (sym (c .before .before .before .read2 .given .1) ∙ c .before .before .before .before .before .from-slice .ensures)
 
 pub hb-lora-rx-stats-spec : {M : Type 1} → statement M
-hb-lora-rx-stats-spec = tie.close (tie.spec (search needs) (search needs) (search needs) (search needs) returns returns-2)
+hb-lora-rx-stats-spec = tie.close (tie.spec (search needs) (search needs) (search needs) (search needs) (search needs) (search needs) returns returns-2)

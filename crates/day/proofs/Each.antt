@@ -1,0 +1,356 @@
+-- The refusals of a day by each number, and the last reading of each request, said of the records.
+--     counts-refused         the count of a number is how many puts the list refuses by it
+--     refused-none           0, 6 and 7 refuse no put
+--     last-lora-rx-stats and its like      the reading of the last answer that the request's length fits; none where there is no such answer
+-- Assumes nothing.
+use mathlib.Core.Path.{_≡_, refl, sym, ap, ap₂, _∙_}
+use mathlib.Core.Bool.{Bool, true, false, cond}
+use mathlib.Core.List.{List, [], _∷_}
+use mathlib.Core.Logic.{inl, inr}
+use Prim.Native.Nat.{ℕ, suc, _+_, _≤_, _<_}
+use native.Mathlib.Omega.{arith}
+use lib.Dec.{eqb, ltb}
+use lib.ListN.{length, getD, getD-replicate, set, replicate}
+use lib.Seq.{getD-set-other, getD-set-same}
+use borrow.Author.Tests.{eqb-true, eqb-false, ne-eqb}
+use Rattle.refusal.specs.declared.Refusal.{Refusal}
+use Rattle.refusal.specs.declared.Refusal.the-variants.{ResponseLength}
+use Rattle.refusal.specs.Numbers.{numberOf}
+use Rattle.decoder.specs.Decoding.{decode}
+use Rattle.cmd_lora.specs.Responses.{loraRxStatsRsp, loraPacketStatusRsp}
+use Rattle.cmd_fsk.specs.Responses.{fskRxStatsRsp, fskPacketStatusRsp}
+use Rattle.cmd_lora.specs.declared.rsp.LoraRxStatsRead.the-variants as loraRxStats
+use Rattle.cmd_lora.specs.declared.rsp.LoraPacketStatusRead.the-variants as loraPacketStatus
+use Rattle.cmd_fsk.specs.declared.rsp.FskRxStatsRead.the-variants as fskRxStats
+use Rattle.cmd_fsk.specs.declared.rsp.FskPacketStatusRead.the-variants as fskPacketStatus
+use Rattle.book.specs.declared.Answer.{Answer}
+use Rattle.book.specs.declared.Answer.the-variants.{Done, Refused}
+use Rattle.book.specs.Plain.{placed, putOn}
+use Rattle.day.specs.declared.Day.{Day}
+use Rattle.day.specs.declared.LastLoraRxStats.the-variants as lastLoraRxStats
+use Rattle.day.specs.declared.LastLoraPacketStatus.the-variants as lastLoraPacketStatus
+use Rattle.day.specs.declared.LastFskRxStats.the-variants as lastFskRxStats
+use Rattle.day.specs.declared.LastFskPacketStatus.the-variants as lastFskPacketStatus
+use Rattle.day.specs.Days.{acceptedOne, bumped, fresh, isAction, kindIn, missed, most, noted, onReceived, plus, refusedOne, tallied}
+use Rattle.day.specs.Days.{heardLoraRxStats, heardLoraPacketStatus, heardFskRxStats, heardFskPacketStatus}
+use Rattle.day.specs.Steps.{Record, State, dayOn, morning, onSent, received, sent, step}
+use Rattle.day.specs.Tally.{accepts, answersTo, newest, refusedFrom, refusesBy}
+use Rattle.day.proofs.Days.{plus-fits, tally-counted}
+use Rattle.day.proofs.Counts.{Putting, Roomy, fresh-roomy, one-of-sum, put-number, putting-small, received-is, sent-frames, sent-is}
+
+-- ---- the latest command
+
+latest-tallied : (k : ℕ) (a : Answer) (d : Day) → tallied k a d .latest ≡ k
+unfolding acceptedOne refusedOne noted
+latest-tallied k (Done n) d = refl
+latest-tallied k (Refused x) d = go (ltb (numberOf x) 9)
+  where
+    go : (t : Bool) → cond t (refusedOne (numberOf x) (noted k d)) (noted k d) .latest ≡ k
+    go true = refl
+    go false = refl
+
+latest-sent : (room : ℕ) (f : List ℕ) (s : State) → onSent room f s .day .latest ≡ kindIn (decode f)
+unfolding onSent noted
+latest-sent room f s = go (isAction (decode f))
+  where
+    go : (t : Bool)
+        → cond {A = State} t (record { frames = s .frames; day = noted (kindIn (decode f)) (s .day) })
+        (record {
+          frames = putOn f [] room (s .frames) .frames;
+          day = tallied (kindIn (decode f)) (putOn f [] room (s .frames) .answer) (s .day);
+        }) .day .latest ≡ kindIn (decode f)
+    go true = refl
+    go false = latest-tallied (kindIn (decode f)) (putOn f [] room (s .frames) .answer) (s .day)
+
+-- ---- an answer
+
+module _ (b : List ℕ) (d : Day) where
+  abbrev lora-stats : Bool → Day
+  lora-stats u = heardLoraRxStats (cond u (loraRxStats.Rsp (loraRxStatsRsp b)) (loraRxStats.Refused ResponseLength)) d
+
+  abbrev lora-packet : Bool → Day
+  lora-packet v = heardLoraPacketStatus (cond v (loraPacketStatus.Rsp (loraPacketStatusRsp b)) (loraPacketStatus.Refused ResponseLength)) d
+
+  abbrev fsk-stats : Bool → Day
+  fsk-stats w = heardFskRxStats (cond w (fskRxStats.Rsp (fskRxStatsRsp b)) (fskRxStats.Refused ResponseLength)) d
+
+  abbrev fsk-packet : Bool → Day
+  fsk-packet v = heardFskPacketStatus (cond v (fskPacketStatus.Rsp (fskPacketStatusRsp b)) (fskPacketStatus.Refused ResponseLength)) d
+
+  -- a day after an answer, by what the latest command and the length are
+  abbrev by : Bool → Bool → Bool → Bool → Bool → Bool → Bool → Day
+  by i j k l u v w = cond i (lora-stats u) (cond j (lora-packet v) (cond k (fsk-stats w) (cond l (fsk-packet v) (missed d))))
+
+  latest-received : onReceived b d .latest ≡ d .latest
+  unfolding onReceived missed
+  latest-received = go (eqb (d .latest) 9) (eqb (d .latest) 10) (eqb (d .latest) 22) (eqb (d .latest) 23) (eqb (length b) 12) (eqb (length b) 8) (eqb (length b) 16)
+    where
+      go : (i j k l u v w : Bool) → by i j k l u v w .latest ≡ d .latest
+      go true j k l true v w = refl
+      go true j k l false v w = refl
+      go false true k l u true w = refl
+      go false true k l u false w = refl
+      go false false true l u v true = refl
+      go false false true l u v false = refl
+      go false false false true u true w = refl
+      go false false false true u false w = refl
+      go false false false false u v w = refl
+
+  refused-received : onReceived b d .refused ≡ d .refused
+  unfolding onReceived missed
+  refused-received = go (eqb (d .latest) 9) (eqb (d .latest) 10) (eqb (d .latest) 22) (eqb (d .latest) 23) (eqb (length b) 12) (eqb (length b) 8) (eqb (length b) 16)
+    where
+      go : (i j k l u v w : Bool) → by i j k l u v w .refused ≡ d .refused
+      go true j k l true v w = refl
+      go true j k l false v w = refl
+      go false true k l u true w = refl
+      go false true k l u false w = refl
+      go false false true l u v true = refl
+      go false false true l u v false = refl
+      go false false false true u true w = refl
+      go false false false true u false w = refl
+      go false false false false u v w = refl
+
+  -- no command is of two kinds
+  one-kind : (m n : ℕ) → (m ≡ n → ⊥) → eqb (d .latest) m ≡ true → eqb (d .latest) n ≡ true → ⊥
+  one-kind m n h e f = h (sym (eqb-true (d .latest) m e) ∙ eqb-true (d .latest) n f)
+
+  nine : onReceived b d .«lora_rx_stats» ≡ cond (cond (eqb (d .latest) 9) (eqb (length b) 12) false) (lastLoraRxStats.Last (loraRxStatsRsp b)) (d .«lora_rx_stats»)
+  unfolding onReceived missed
+  nine =
+      go (eqb (d .latest) 9) refl (eqb (d .latest) 10) refl (eqb (d .latest) 22) refl (eqb (d .latest) 23) refl (eqb (length b) 12) (eqb (length b) 8)
+      (eqb (length b) 16)
+    where
+      go : (i : Bool) → eqb (d .latest) 9 ≡ i → (j : Bool) → eqb (d .latest) 10 ≡ j → (k : Bool) → eqb (d .latest) 22 ≡ k → (l : Bool)
+          → eqb (d .latest) 23 ≡ l → (u v w : Bool)
+          → by i j k l u v w .«lora_rx_stats» ≡ cond (cond i u false) (lastLoraRxStats.Last (loraRxStatsRsp b)) (d .«lora_rx_stats»)
+      go true e0 j e1 k e2 l e3 true v w = refl
+      go true e0 j e1 k e2 l e3 false v w = refl
+      go false e0 true e1 k e2 l e3 u true w = refl
+      go false e0 true e1 k e2 l e3 u false w = refl
+      go false e0 false e1 true e2 l e3 u v true = refl
+      go false e0 false e1 true e2 l e3 u v false = refl
+      go false e0 false e1 false e2 true e3 u true w = refl
+      go false e0 false e1 false e2 true e3 u false w = refl
+      go false e0 false e1 false e2 false e3 u v w = refl
+
+  ten : onReceived b d .«lora_packet_status» ≡ cond (cond (eqb (d .latest) 10) (eqb (length b) 8) false) (lastLoraPacketStatus.Last (loraPacketStatusRsp b)) (d .«lora_packet_status»)
+  unfolding onReceived missed
+  ten =
+      go (eqb (d .latest) 9) refl (eqb (d .latest) 10) refl (eqb (d .latest) 22) refl (eqb (d .latest) 23) refl (eqb (length b) 12) (eqb (length b) 8)
+      (eqb (length b) 16)
+    where
+      go : (i : Bool) → eqb (d .latest) 9 ≡ i → (j : Bool) → eqb (d .latest) 10 ≡ j → (k : Bool) → eqb (d .latest) 22 ≡ k → (l : Bool)
+          → eqb (d .latest) 23 ≡ l → (u v w : Bool)
+          → by i j k l u v w .«lora_packet_status» ≡ cond (cond j v false) (lastLoraPacketStatus.Last (loraPacketStatusRsp b)) (d .«lora_packet_status»)
+      go true e0 true e1 k e2 l e3 u v w = absurd (one-kind 9 10 (λ h. omega (arith, h)) e0 e1)
+      go true e0 false e1 k e2 l e3 true v w = refl
+      go true e0 false e1 k e2 l e3 false v w = refl
+      go false e0 true e1 k e2 l e3 u true w = refl
+      go false e0 true e1 k e2 l e3 u false w = refl
+      go false e0 false e1 true e2 l e3 u v true = refl
+      go false e0 false e1 true e2 l e3 u v false = refl
+      go false e0 false e1 false e2 true e3 u true w = refl
+      go false e0 false e1 false e2 true e3 u false w = refl
+      go false e0 false e1 false e2 false e3 u v w = refl
+
+  twenty-two : onReceived b d .«fsk_rx_stats» ≡ cond (cond (eqb (d .latest) 22) (eqb (length b) 16) false) (lastFskRxStats.Last (fskRxStatsRsp b)) (d .«fsk_rx_stats»)
+  unfolding onReceived missed
+  twenty-two =
+      go (eqb (d .latest) 9) refl (eqb (d .latest) 10) refl (eqb (d .latest) 22) refl (eqb (d .latest) 23) refl (eqb (length b) 12) (eqb (length b) 8)
+      (eqb (length b) 16)
+    where
+      go : (i : Bool) → eqb (d .latest) 9 ≡ i → (j : Bool) → eqb (d .latest) 10 ≡ j → (k : Bool) → eqb (d .latest) 22 ≡ k → (l : Bool)
+          → eqb (d .latest) 23 ≡ l → (u v w : Bool)
+          → by i j k l u v w .«fsk_rx_stats» ≡ cond (cond k w false) (lastFskRxStats.Last (fskRxStatsRsp b)) (d .«fsk_rx_stats»)
+      go true e0 j e1 true e2 l e3 u v w = absurd (one-kind 9 22 (λ h. omega (arith, h)) e0 e2)
+      go true e0 j e1 false e2 l e3 true v w = refl
+      go true e0 j e1 false e2 l e3 false v w = refl
+      go false e0 true e1 true e2 l e3 u v w = absurd (one-kind 10 22 (λ h. omega (arith, h)) e1 e2)
+      go false e0 true e1 false e2 l e3 u true w = refl
+      go false e0 true e1 false e2 l e3 u false w = refl
+      go false e0 false e1 true e2 l e3 u v true = refl
+      go false e0 false e1 true e2 l e3 u v false = refl
+      go false e0 false e1 false e2 true e3 u true w = refl
+      go false e0 false e1 false e2 true e3 u false w = refl
+      go false e0 false e1 false e2 false e3 u v w = refl
+
+  twenty-three : onReceived b d .«fsk_packet_status» ≡ cond (cond (eqb (d .latest) 23) (eqb (length b) 8) false) (lastFskPacketStatus.Last (fskPacketStatusRsp b)) (d .«fsk_packet_status»)
+  unfolding onReceived missed
+  twenty-three =
+      go (eqb (d .latest) 9) refl (eqb (d .latest) 10) refl (eqb (d .latest) 22) refl (eqb (d .latest) 23) refl (eqb (length b) 12) (eqb (length b) 8)
+      (eqb (length b) 16)
+    where
+      go : (i : Bool) → eqb (d .latest) 9 ≡ i → (j : Bool) → eqb (d .latest) 10 ≡ j → (k : Bool) → eqb (d .latest) 22 ≡ k → (l : Bool)
+          → eqb (d .latest) 23 ≡ l → (u v w : Bool)
+          → by i j k l u v w .«fsk_packet_status» ≡ cond (cond l v false) (lastFskPacketStatus.Last (fskPacketStatusRsp b)) (d .«fsk_packet_status»)
+      go true e0 j e1 k e2 true e3 u v w = absurd (one-kind 9 23 (λ h. omega (arith, h)) e0 e3)
+      go true e0 j e1 k e2 false e3 true v w = refl
+      go true e0 j e1 k e2 false e3 false v w = refl
+      go false e0 true e1 k e2 true e3 u v w = absurd (one-kind 10 23 (λ h. omega (arith, h)) e1 e3)
+      go false e0 true e1 k e2 false e3 u true w = refl
+      go false e0 true e1 k e2 false e3 u false w = refl
+      go false e0 false e1 true e2 true e3 u v w = absurd (one-kind 22 23 (λ h. omega (arith, h)) e2 e3)
+      go false e0 false e1 true e2 false e3 u v true = refl
+      go false e0 false e1 true e2 false e3 u v false = refl
+      go false e0 false e1 false e2 true e3 u true w = refl
+      go false e0 false e1 false e2 true e3 u false w = refl
+      go false e0 false e1 false e2 false e3 u v w = refl
+
+-- ---- the last readings
+
+-- A place of the numbers that commands leave alone, and answers only where they are to the request k and have the length m.
+record Reads {X : Type 0} (get : Day → X) (read : List ℕ → X) (k m : ℕ) : Type 0 where
+  kept : (j : ℕ) (d : Day) → get (noted j d) ≡ get d
+  accepts : (d : Day) → get (acceptedOne d) ≡ get d
+  refuses : (n : ℕ) (d : Day) → get (refusedOne n d) ≡ get d
+  reads : (b : List ℕ) (d : Day) → get (onReceived b d) ≡ cond (cond (eqb (d .latest) k) (eqb (length b) m) false) (read b) (get d)
+
+module _ {X : Type 0} (get : Day → X) (read : List ℕ → X) (k m : ℕ) (R : Reads get read k m) where
+  tallied-get : (j : ℕ) (a : Answer) (d : Day) → get (tallied j a d) ≡ get d
+  tallied-get j (Done n) d = R .accepts (noted j d) ∙ R .kept j d
+  tallied-get j (Refused x) d = go (ltb (numberOf x) 9)
+    where
+      go : (t : Bool) → get (cond t (refusedOne (numberOf x) (noted j d)) (noted j d)) ≡ get d
+      go true = R .refuses (numberOf x) (noted j d) ∙ R .kept j d
+      go false = R .kept j d
+
+  sent-get : (room : ℕ) (f : List ℕ) (s : State) → get (onSent room f s .day) ≡ get (s .day)
+  unfolding onSent
+  sent-get room f s = go (isAction (decode f))
+    where
+      go : (t : Bool)
+          → get (cond {A = State} t (record { frames = s .frames; day = noted (kindIn (decode f)) (s .day) })
+          (record {
+            frames = putOn f [] room (s .frames) .frames;
+            day = tallied (kindIn (decode f)) (putOn f [] room (s .frames) .answer) (s .day);
+          }) .day) ≡ get (s .day)
+      go true = R .kept (kindIn (decode f)) (s .day)
+      go false = tallied-get (kindIn (decode f)) (putOn f [] room (s .frames) .answer) (s .day)
+
+  last-from : (room : ℕ) (rs : List Record) (s : State) → get (dayOn room rs s .day) ≡ newest read (get (s .day)) (answersTo k m (s .day .latest) rs)
+  unfolding dayOn answersTo newest
+  last-from room [] s = refl
+  last-from room (sent f ∷ rs) s =
+      last-from room rs (onSent room f s)
+      ∙ ap₂ (λ (x : X) (j : ℕ). newest read x (answersTo k m j rs)) (sent-get room f s) (latest-sent room f s)
+  last-from room (received b ∷ rs) s =
+      last-from room rs (step room (received b) s)
+      ∙ ap₂ (λ (x : X) (j : ℕ). newest read x (answersTo k m j rs)) (R .reads b (s .day)) (latest-received b (s .day))
+      ∙ go (cond (eqb (s .day .latest) k) (eqb (length b) m) false)
+    where
+      go : (t : Bool)
+          → newest read (cond t (read b) (get (s .day))) (answersTo k m (s .day .latest) rs)
+          ≡ newest read (get (s .day)) (cond t (b ∷ answersTo k m (s .day .latest) rs) (answersTo k m (s .day .latest) rs))
+      go true = refl
+      go false = refl
+
+-- ---- of the four requests
+
+module _ (room : ℕ) (rs : List Record) where
+  pub last-lora-rx-stats : dayOn room rs morning .day .«lora_rx_stats» ≡ newest (λ b. lastLoraRxStats.Last (loraRxStatsRsp b)) lastLoraRxStats.Never (answersTo 9 12 0 rs)
+  unfolding fresh noted acceptedOne refusedOne
+  last-lora-rx-stats =
+      last-from (λ d. d .«lora_rx_stats») (λ b. lastLoraRxStats.Last (loraRxStatsRsp b)) 9 12
+      (record { kept = λ j d. refl; accepts = λ d. refl; refuses = λ n d. refl; reads = λ b d. nine b d }) room rs morning
+
+  pub last-lora-packet-status : dayOn room rs morning .day .«lora_packet_status» ≡ newest (λ b. lastLoraPacketStatus.Last (loraPacketStatusRsp b)) lastLoraPacketStatus.Never (answersTo 10 8 0 rs)
+  unfolding fresh noted acceptedOne refusedOne
+  last-lora-packet-status =
+      last-from (λ d. d .«lora_packet_status») (λ b. lastLoraPacketStatus.Last (loraPacketStatusRsp b)) 10 8
+      (record { kept = λ j d. refl; accepts = λ d. refl; refuses = λ n d. refl; reads = λ b d. ten b d }) room rs morning
+
+  pub last-fsk-rx-stats : dayOn room rs morning .day .«fsk_rx_stats» ≡ newest (λ b. lastFskRxStats.Last (fskRxStatsRsp b)) lastFskRxStats.Never (answersTo 22 16 0 rs)
+  unfolding fresh noted acceptedOne refusedOne
+  last-fsk-rx-stats =
+      last-from (λ d. d .«fsk_rx_stats») (λ b. lastFskRxStats.Last (fskRxStatsRsp b)) 22 16
+      (record { kept = λ j d. refl; accepts = λ d. refl; refuses = λ n d. refl; reads = λ b d. twenty-two b d }) room rs morning
+
+  pub last-fsk-packet-status : dayOn room rs morning .day .«fsk_packet_status» ≡ newest (λ b. lastFskPacketStatus.Last (fskPacketStatusRsp b)) lastFskPacketStatus.Never (answersTo 23 8 0 rs)
+  unfolding fresh noted acceptedOne refusedOne
+  last-fsk-packet-status =
+      last-from (λ d. d .«fsk_packet_status») (λ b. lastFskPacketStatus.Last (fskPacketStatusRsp b)) 23 8
+      (record { kept = λ j d. refl; accepts = λ d. refl; refuses = λ n d. refl; reads = λ b d. twenty-three b d }) room rs morning
+
+-- ---- refusals by each number
+
+-- one more at the index of a refused put's number, and nowhere else
+bumped-each : (l : List ℕ) (i n : ℕ) → length l ≡ 9 → i < 9 → getD l i 0 < most → getD (bumped i l) n 0 ≡ cond (eqb i n) 1 0 + getD l n 0
+unfolding bumped
+bumped-each l i n nine-long low room = go (eqb i n) refl
+  where
+    go : (t : Bool) → eqb i n ≡ t → getD (set l i (plus (getD l i 0) 1)) n 0 ≡ cond t 1 0 + getD l n 0
+    go true e =
+        let s : i ≡ n = eqb-true i n e in
+        let one : plus (getD l i 0) 1 ≡ 1 + getD l i 0 = plus-fits (getD l i 0) 1 (omega (arith, room)) ∙ omega arith in
+        ap (λ (k : ℕ). getD (set l i (plus (getD l i 0) 1)) k 0) (sym s)
+        ∙ getD-set-same l i (plus (getD l i 0) 1) 0 (omega (arith, nine-long, low))
+        ∙ one
+        ∙ ap (λ (k : ℕ). 1 + getD l k 0) s
+    go false e =
+        let none : getD l n 0 ≡ 0 + getD l n 0 = omega arith in
+        getD-set-other l i n (plus (getD l i 0) 1) 0 (λ q. eqb-false i n e (sym q)) ∙ none
+
+module _ (n room : ℕ) where
+  -- what one put adds to the count of n
+  abbrev added : List ℕ → List (List ℕ) → ℕ
+  added f fs = cond (isAction (decode f)) 0 (cond (refusesBy n (putOn f [] room fs .answer)) 1 0)
+
+  sent-each : (m : ℕ) (f : List ℕ) (s : State) → Roomy (suc m) (s .day)
+      → getD (onSent room f s .day .refused) n 0 ≡ added f (s .frames) + getD (s .day .refused) n 0
+  unfolding onSent noted acceptedOne refusedOne
+  sent-each m f s R = go (isAction (decode f)) refl (putOn f [] room (s .frames) .answer) refl
+    where
+      same : getD (s .day .refused) n 0 ≡ 0 + getD (s .day .refused) n 0
+      same = omega arith
+
+      go : (t : Bool) → isAction (decode f) ≡ t → (a : Answer) → putOn f [] room (s .frames) .answer ≡ a
+          → getD (cond {A = State} t (record { frames = s .frames; day = noted (kindIn (decode f)) (s .day) })
+          (record { frames = putOn f [] room (s .frames) .frames; day = tallied (kindIn (decode f)) a (s .day) }) .day .refused) n 0
+          ≡ cond t 0 (cond (refusesBy n a) 1 0) + getD (s .day .refused) n 0
+      go true e a q = same
+      go false e (Done j) q = same
+      go false e (Refused x) q =
+          let low : numberOf x < 9 = putting-small x (put-number f room (s .frames) x e q) in
+          ap (λ (y : Day). getD (y .refused) n 0) (sym (tally-counted (kindIn (decode f)) (s .day) (Refused x) x refl (numberOf x) refl low))
+          ∙ bumped-each (s .day .refused) (numberOf x) n (R .nine) low (omega (arith, R .puts, one-of-sum (s .day .refused) (numberOf x)))
+
+  counts-refused-from : (rs : List Record) (s : State) → Roomy (length rs) (s .day)
+      → getD (dayOn room rs s .day .refused) n 0 ≡ getD (s .day .refused) n 0 + refusedFrom n room (s .frames) rs
+  unfolding dayOn refusedFrom
+  counts-refused-from [] s R = omega arith
+  counts-refused-from (sent f ∷ rs) s R =
+      let z = sent-is (length rs) room f s R in
+      omega (
+        arith,
+        counts-refused-from rs (onSent room f s) (z .roomy),
+        sent-each (length rs) f s R,
+        ap (λ (fs : List (List ℕ)). refusedFrom n room fs rs) (sent-frames room f s),
+      )
+  counts-refused-from (received b ∷ rs) s R =
+      let z = received-is (length rs) b (s .day) R in
+      omega (arith, counts-refused-from rs (step room (received b) s) (z .roomy), ap (λ (l : List ℕ). getD l n 0) (refused-received b (s .day)))
+
+  pub counts-refused : (rs : List Record) → length rs ≤ most → n < 9 → getD (dayOn room rs morning .day .refused) n 0 ≡ refusedFrom n room [] rs
+  unfolding fresh
+  counts-refused rs few low =
+      let none : _≡_ {A = ℕ} (getD (replicate 9 0) n 0) 0 = getD-replicate 9 n 0 0 low in
+      omega (arith, counts-refused-from rs morning (fresh-roomy room rs few), none)
+
+  -- by a number that is neither 1 to 5 nor 8 no put is refused
+  pub refused-none : (1 ≤ n → 5 < n) → (n ≡ 8 → ⊥) → (rs : List Record) (fs : List (List ℕ)) → refusedFrom n room fs rs ≡ 0
+  unfolding refusedFrom
+  refused-none h k [] fs = refl
+  refused-none h k (received b ∷ rs) fs = refused-none h k rs fs
+  refused-none h k (sent f ∷ rs) fs =
+      let e : added f fs ≡ 0 = go (isAction (decode f)) refl (putOn f [] room fs .answer) refl in
+      omega (arith, e, refused-none h k rs (cond (accepts room fs f) (placed f fs) fs))
+    where
+      apart : (x : Refusal) → Putting x → numberOf x ≡ n → ⊥
+      apart x (inl p) q = omega (arith, p .0, p .1, q, h (omega (arith, p .0, q)))
+      apart x (inr p) q = k (sym q ∙ p)
+
+      go : (t : Bool) → isAction (decode f) ≡ t → (a : Answer) → putOn f [] room fs .answer ≡ a → _≡_ {A = ℕ} (cond t 0 (cond (refusesBy n a) 1 0)) 0
+      go true e a q = refl
+      go false e (Done j) q = refl
+      go false e (Refused x) q = rw (ne-eqb (numberOf x) n (apart x (put-number f room fs x e q))) refl

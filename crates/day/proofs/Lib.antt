@@ -1,0 +1,5 @@
+pub mod Days
+pub mod Counts
+pub mod Each
+pub mod Steps
+pub mod Outcome

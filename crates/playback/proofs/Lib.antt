@@ -1,0 +1,10 @@
+pub mod Found
+pub mod Traces
+pub mod Passing
+pub mod Sizes
+pub mod Running
+pub mod Playing
+pub mod Laws
+pub mod Parts
+pub mod Outcome
+pub mod Examples

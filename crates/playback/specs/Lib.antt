@@ -1,0 +1,4 @@
+pub mod Trace
+pub mod Plays
+pub mod Parts
+pub mod Code

@@ -1,0 +1,6 @@
+pub mod Writing
+pub mod Forms
+pub mod Levels
+pub mod Longest
+pub mod Example
+pub mod Outcome
