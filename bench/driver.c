@@ -120,9 +120,16 @@ static void decoders(double *ratios) {
 #include "../../bench/book.c"
 #include "../../bench/play.c"
 
-int main(void) {
+int main(int count, char **words) {
     double ratios[REPEATS];
+    (void)words;
     for (int i = 0; i < SETS + BYTES; i++) bytes[i] = next();
+    // With any word, the playback alone.
+    if (count > 1) {
+        make_pool();
+        plays();
+        return 0;
+    }
     for (u64 k = 0; k < sizeof builders / sizeof *builders; k++) {
         const builder *b = &builders[k];
         double hb = 1e18, rs = 1e18;

@@ -107,7 +107,8 @@ abbrev pub Putting : Refusal → Type 0
 Putting x = ((1 ≤ numberOf x) × (numberOf x ≤ 5)) ⊎ (numberOf x ≡ 8)
 
 -- a put that is no action's is refused by 1 to 5 or by 8
-pub put-number : (f : List ℕ) (room : ℕ) (fs : List (List ℕ)) (x : Refusal) → isAction (decode f) ≡ false → putOn f [] room fs .answer ≡ Refused x → Putting x
+pub put-number : (f : List ℕ) (room : ℕ) (fs : List (List ℕ)) (x : Refusal) → isAction (decode f) ≡ false → putOn f [] room fs .answer ≡ Refused x
+    → Putting x
 unfolding putOn slotOf numberIn whichIn
 put-number f room fs x a e = go (decode f) refl (ltb (slotOf f) settings) refl (leb (length (flat (placed f fs))) room) a e
   where
@@ -171,7 +172,8 @@ module _ (n room : ℕ) (f : List ℕ) (s : State) (R : Roomy (suc n) (s .day)) 
         roomy = record { puts = omega (arith, R .puts); skips = omega (arith, R .skips); all = omega (arith, R .all, one-record); nine = R .nine };
       }
 
-  accepting : accepts room fs f ≡ true → isAction (decode f) ≡ false → Sends n room f s (record { frames = placed f fs; day = acceptedOne (noted k d) })
+  accepting : accepts room fs f ≡ true → isAction (decode f) ≡ false
+      → Sends n room f s (record { frames = placed f fs; day = acceptedOne (noted k d) })
   unfolding noted acceptedOne
   accepting acc a =
       let one : plus (d .accepted) 1 ≡ 1 + d .accepted = plus-fits (d .accepted) 1 (omega (arith, R .puts)) ∙ omega arith in
@@ -303,7 +305,8 @@ module _ (n : ℕ) (b : List ℕ) (d : Day) (R : Roomy (suc n) d) where
       })
       none = record { latest = refl; accepted = refl; refused = refl; skipped = refl; records = refl }
 
-      hears : {e : Day} → e .latest ≡ d .latest → e .accepted ≡ d .accepted → e .refused ≡ d .refused → e .skipped ≡ d .skipped → e .records ≡ plus (d .records) 1 → Hears d e
+      hears : {e : Day} → e .latest ≡ d .latest → e .accepted ≡ d .accepted → e .refused ≡ d .refused → e .skipped ≡ d .skipped
+          → e .records ≡ plus (d .records) 1 → Hears d e
       hears l a r s n = record { latest = l; accepted = a; refused = r; skipped = s; records = n }
 
       go : (i j k l u v w : Bool)
@@ -354,7 +357,8 @@ module _ (room : ℕ) where
       let z = received-is (length rs) b (s .day) R in
       omega (arith, counts-sent-from rs (step room (received b) s) (z .roomy), z .accepted, ap sum (z .refused))
 
-  counts-skipped-from : (rs : List Record) (s : State) → Roomy (length rs) (s .day) → dayOn room rs s .day .skipped ≡ s .day .skipped + unread (s .day .latest) rs
+  counts-skipped-from : (rs : List Record) (s : State) → Roomy (length rs) (s .day)
+      → dayOn room rs s .day .skipped ≡ s .day .skipped + unread (s .day .latest) rs
   unfolding dayOn unread
   counts-skipped-from [] s R = omega arith
   counts-skipped-from (sent f ∷ rs) s R =
@@ -374,7 +378,8 @@ module _ (room : ℕ) where
       z : Sends (length rs) room f s (onSent room f s)
       z = sent-is (length rs) room f s R
 
-      go : (t : Bool) → onSent room f s .frames ≡ cond t (placed f (s .frames)) (s .frames) → onSent room f s .day .accepted ≡ cond t 1 0 + s .day .accepted
+      go : (t : Bool) → onSent room f s .frames ≡ cond t (placed f (s .frames)) (s .frames)
+          → onSent room f s .day .accepted ≡ cond t 1 0 + s .day .accepted
           → dayOn room rs (onSent room f s) .day .accepted ≡ onSent room f s .day .accepted + length (acceptedFrom room (onSent room f s .frames) rs)
           → dayOn room rs (onSent room f s) .day .accepted
           ≡ s .day .accepted + length (cond t (f ∷ acceptedFrom room (placed f (s .frames)) rs) (acceptedFrom room (s .frames) rs))
@@ -444,7 +449,8 @@ module _ (room : ℕ) where
       go false a true b false = refl
       go false a false b w = refl
 
-  day-frames-from : (rs : List Record) (s : State) → dayOn room rs s .frames ≡ onList (turn room) (puts (acceptedFrom room (s .frames) rs)) (s .frames) .frames
+  day-frames-from : (rs : List Record) (s : State)
+      → dayOn room rs s .frames ≡ onList (turn room) (puts (acceptedFrom room (s .frames) rs)) (s .frames) .frames
   unfolding dayOn acceptedFrom puts onList turn
   day-frames-from [] s = refl
   day-frames-from (sent f ∷ rs) s = go (accepts room (s .frames) f) refl (sent-frames f s) (day-frames-from rs (onSent room f s))

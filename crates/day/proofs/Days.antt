@@ -109,7 +109,8 @@ module _ (f b : List ℕ) (d : Day) (q : Decoded) (e : q ≡ decoded (decode f))
   Sent r x = (r ≡ sentDay f b d) × (x ≡ sentBytes f b)
 
   module _ (r : Day) (x : List ℕ) (k : ℕ) where
-    put-sent : (a : Said) → actionTold (q .answer) ≡ false → kindTold (q .answer) ≡ k → r ≡ tallied k a d → Permits (after ours (Put f) b) a x → Sent r x
+    put-sent : (a : Said) → actionTold (q .answer) ≡ false → kindTold (q .answer) ≡ k → r ≡ tallied k a d → Permits (after ours (Put f) b) a x
+        → Sent r x
     unfolding sentDay sentBytes
     put-sent a t h g p = rw (g, p .0, p .1, sym action-is ∙ t, sym kind-is ∙ h) (refl, refl)
 
@@ -124,6 +125,7 @@ module _ (f b : List ℕ) (d : Day) (q : Decoded) (e : q ≡ decoded (decode f))
         let s : kindIn (decode f) ≡ k = sym kind-is ∙ ap kindTold h in
         rw (g, p, t, s) (refl, refl)
 
-  pub sent-refused : (r : Day) (x : List ℕ) (a : Said) (w : Refusal) → q .answer ≡ Refused w → r ≡ tallied 0 a d → Permits (after ours (Put f) b) a x → Sent r x
+  pub sent-refused : (r : Day) (x : List ℕ) (a : Said) (w : Refusal) → q .answer ≡ Refused w → r ≡ tallied 0 a d
+      → Permits (after ours (Put f) b) a x → Sent r x
   unfolding kindTold actionTold
   sent-refused r x a w h = put-sent r x 0 a (ap actionTold h) (ap kindTold h)

@@ -168,7 +168,8 @@ front-length s f =
 pub record Holds (n at : ℕ) (s : List ℕ) (f : Found) : Type 0 where
   pub again : bytesOfAll (f .records) ++ drop (length (bytesOfAll (f .records))) s ≡ s
   pub all : f .stop ≡ none → length (f .records) ≡ n
-  pub fault : (p : ℕ) → f .stop ≡ some p → (p ≡ at + length (bytesOfAll (f .records))) × (fits (drop (length (bytesOfAll (f .records))) s) ≡ false) × (length (f .records) < n)
+  pub fault : (p : ℕ) → f .stop ≡ some p
+      → (p ≡ at + length (bytesOfAll (f .records))) × (fits (drop (length (bytesOfAll (f .records))) s) ≡ false) × (length (f .records) < n)
 
 pub records-hold : (n at : ℕ) (s : List ℕ) → Holds n at s (recordsFrom n at s)
 unfolding recordsFrom bytesOfAll
@@ -178,7 +179,8 @@ records-hold (suc n) at s = go (fits s) refl (records-hold n (at + sizeAt s) (dr
     found : Found
     found = recordsFrom n (at + sizeAt s) (drop (sizeAt s) s)
 
-    go : (x : Bool) → fits s ≡ x → Holds n (at + sizeAt s) (drop (sizeAt s) s) found → Holds (suc n) at s (cond x (ahead (recordAt s) found) (stoppedAt at))
+    go : (x : Bool) → fits s ≡ x → Holds n (at + sizeAt s) (drop (sizeAt s) s) found
+        → Holds (suc n) at s (cond x (ahead (recordAt s) found) (stoppedAt at))
     go true e ih =
         let f : Fits s = fits-true s e in
         let r : List ℕ = bytesOf (recordAt s) in
@@ -205,7 +207,8 @@ records-hold (suc n) at s = go (fits s) refl (records-hold n (at + sizeAt s) (dr
 
 module _ (at : ℕ) (s : List ℕ) where
   -- the record that fits, and those behind it
-  records-front : (n : ℕ) → fits s ≡ true → recordsFrom (suc n) at s .records ≡ recordAt s ∷ recordsFrom n (at + sizeAt s) (drop (sizeAt s) s) .records
+  records-front : (n : ℕ) → fits s ≡ true
+      → recordsFrom (suc n) at s .records ≡ recordAt s ∷ recordsFrom n (at + sizeAt s) (drop (sizeAt s) s) .records
   records-front n h = ap (λ (f : Found). f .records) (records-next n at s h)
 
   records-none : (n : ℕ) → fits s ≡ false → recordsFrom (suc n) at s .records ≡ []

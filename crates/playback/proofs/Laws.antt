@@ -68,7 +68,8 @@ pub play-behind : (b t x : List ℕ) → traced t .stop ≡ none → plays (t ++
 play-behind b t x e = same-records b (t ++ x) t (traced-behind t x e)
 
 -- two traces with the same header and the same bytes from the first record on
-pub play-between : (b t u : List ℕ) → 4 ≤ length t → 4 ≤ length u → take 4 t ≡ take 4 u → drop (firstIn t) t ≡ drop (firstIn t) u → plays t b ≡ plays u b
+pub play-between : (b t u : List ℕ) → 4 ≤ length t → 4 ≤ length u → take 4 t ≡ take 4 u → drop (firstIn t) t ≡ drop (firstIn t) u
+    → plays t b ≡ plays u b
 play-between b t u l m e f = same-records b t u (traced-between t u l m e f)
 
 -- a buffer that is too short or too long
@@ -140,7 +141,8 @@ module _ (b : List ℕ) (low : start (ours .slots) ≤ length b) (high : length 
     unfolding traced wordAt
     few = go (headed t) refl
       where
-        go : (y : Bool) → headed t ≡ y → length (cond {A = Found} y (recordsFrom (countIn t) (firstIn t) (drop (firstIn t) t)) (stoppedAt 0) .records) ≤ most
+        go : (y : Bool) → headed t ≡ y
+            → length (cond {A = Found} y (recordsFrom (countIn t) (firstIn t) (drop (firstIn t) t)) (stoppedAt 0) .records) ≤ most
         go true e = omega (arith, records-most (countIn t) (firstIn t) (drop (firstIn t) t), B 0, B (0 + 1))
         go false e = omega arith
 
@@ -195,7 +197,8 @@ play-keeps t b x e = go (leb (start (ours .slots)) (length b)) (leb (length b) l
     by none q = absurd (done-refused 0 x q)
     by (some p) q = (p, cc)
 
-    go : (u v : Bool) → onMade t b (answer u v) .played .answer ≡ Refused x → ((x ≡ BufferSize) × (onMade t b (answer u v) .bytes ≡ b)) ⊎ ((p : ℕ) × (x ≡ TraceFault p))
+    go : (u v : Bool) → onMade t b (answer u v) .played .answer ≡ Refused x
+        → ((x ≡ BufferSize) × (onMade t b (answer u v) .bytes ≡ b)) ⊎ ((p : ℕ) × (x ≡ TraceFault p))
     go true true q = inr (by (runIn (roomOf ours (length b)) t .stop) q)
     go true false q = inl (cc, refl)
     go false v q = inl (cc, refl)

@@ -59,7 +59,8 @@ pub data Fed : Cursor → List ℕ → List ℕ → Played → List ℕ → Type
 -- ---- one pass, on any bytes
 
 module _ (more : Bool) (c : Cursor) (p b : List ℕ) where
-  pub passes-keep : (x : Refusal) → passes more c p b .passed .answer ≡ Refused x → (passes more c p b .passed .cursor ≡ c) × (passes more c p b .bytes ≡ b)
+  pub passes-keep : (x : Refusal) → passes more c p b .passed .answer ≡ Refused x
+      → (passes more c p b .passed .cursor ≡ c) × (passes more c p b .bytes ≡ b)
   unfolding passes
   passes-keep x e = go (opened ours b) e
     where
@@ -110,7 +111,8 @@ module _ (m : ℕ) (low : start (ours .slots) ≤ m) (high : m ≤ longest) wher
       onward : Went
       onward = passRecords more room n (plus at (sizeAt p)) (drop (sizeAt p) p) (step room (recordAt p) s)
 
-      go : (x y : Bool) → Held (onward .state) → Held (cond x (parts.after (sizeAt p) onward) (cond y (halts (Stopped at) s) (halts (Records (suc n) 0 at) s)) .state)
+      go : (x y : Bool) → Held (onward .state)
+          → Held (cond x (parts.after (sizeAt p) onward) (cond y (halts (Stopped at) s) (halts (Records (suc n) 0 at) s)) .state)
       go true y k = k
       go false true k = K
       go false false k = K

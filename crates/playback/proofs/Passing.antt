@@ -375,7 +375,8 @@ goes-after : (k : ℕ) (w : Went) → Goes w → Goes (after k w)
 goes-after k w (inl h) = inl (omega (arith, h))
 goes-after k w (inr h) = inr h
 
-gap-goes : (more : Bool) (room left skip at : ℕ) (s : List ℕ) (d : State) → getD s 1 0 ≤ 255 → 257 ≤ length s → Goes (passGap more room left skip at s d)
+gap-goes : (more : Bool) (room left skip at : ℕ) (s : List ℕ) (d : State) → getD s 1 0 ≤ 255 → 257 ≤ length s
+    → Goes (passGap more room left skip at s d)
 unfolding passGap
 gap-goes more room left zero at s d b l =
     rw (le-leb 0 (length s) (omega arith))

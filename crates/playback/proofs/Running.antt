@@ -143,7 +143,8 @@ module _ (more : Bool) (room left skip at : ℕ) (t : List ℕ) (from : ℕ) (wi
   abbrev gap : Went
   gap = after from (passGap more room left skip at (drop from t) s)
 
-  pub gap-passed : (k : ℕ) → k ≡ plus at skip → skip ≤ length t - from → after (from + skip) (passRecords more room left k (drop (from + skip) t) s) ≡ gap
+  pub gap-passed : (k : ℕ) → k ≡ plus at skip → skip ≤ length t - from
+      → after (from + skip) (passRecords more room left k (drop (from + skip) t) s) ≡ gap
   unfolding passGap
   gap-passed k p h =
       let w : Went = passRecords more room left (plus at skip) (drop skip (drop from t)) s in
@@ -197,7 +198,8 @@ module _ (more : Bool) (room : ℕ) (t : List ℕ) (s : State) where
 
 -- a pass that ends before any record
 pub comes-still : (b : List ℕ) (d : Day) (w : Went) (g : Stage) (u : ℕ) (r : Passed) → Bytes b → Done 0 ≡ verdict (opened ours b)
-    → record { used = u; stage = g; state = stateIn b d } ≡ w → r ≡ record { answer = Done u; cursor = record { stage = g; day = d } } → Comes (length b) w r b
+    → record { used = u; stage = g; state = stateIn b d } ≡ w → r ≡ record { answer = Done u; cursor = record { stage = g; day = d } }
+    → Comes (length b) w r b
 unfolding stateIn
 comes-still b d w g u r B e h k =
     record { told = k ∙ ap went h; bytes = sound-standing b d B e .bytes ∙ ap (λ (v : Went). image ours (length b) (v .state .frames)) h }

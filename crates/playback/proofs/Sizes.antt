@@ -57,7 +57,8 @@ module _ (t : List ℕ) (i : ℕ) where
   unfolding sizeIn
   size-fits n e h = go (fits (drop i t)) refl e
     where
-      go : (x : Bool) → fits (drop i t) ≡ x → n ≡ cond x (sizeAt (drop i t)) 0 → (fits (drop i t) ≡ true) × (n ≡ sizeAt (drop i t)) × (i + n ≤ length t)
+      go : (x : Bool) → fits (drop i t) ≡ x → n ≡ cond x (sizeAt (drop i t)) 0
+          → (fits (drop i t) ≡ true) × (n ≡ sizeAt (drop i t)) × (i + n ≤ length t)
       go true f k = (f, k, omega (arith, k, fits-true (drop i t) f .whole, length-drop i t))
       go false f k = absurd (omega (arith, k, h))
 

@@ -121,7 +121,8 @@ module _ (t : List ℕ) (h : headed t ≡ true) where
       ∙ ap₂ found (records-take m (countIn t) (firstIn t) s n) (records-free m (countIn t) (firstIn t) s l)
       ∙ ap (λ (f : Found). found (take m (f .records)) none) (sym traced-all)
 
-  pub run-prefix : (room m : ℕ) → m ≤ length (traced t .records) → runIn room (recounted m t) ≡ ran (dayOn room (take m (traced t .records)) morning) none
+  pub run-prefix : (room m : ℕ) → m ≤ length (traced t .records)
+      → runIn room (recounted m t) ≡ ran (dayOn room (take m (traced t .records)) morning) none
   unfolding runIn
   run-prefix room m k = ap (λ (f : Found). runOn room f morning) (traced-prefix m k)
 
@@ -215,7 +216,8 @@ module _ (h g s : List ℕ) (l : length h ≡ 4) (f : firstIn h ≡ 4 + length g
       ∙ ap (recordsFrom (countIn h) (4 + length g)) d
 
 -- two traces with the same header and the same bytes from the first record on
-pub traced-between : (t u : List ℕ) → 4 ≤ length t → 4 ≤ length u → take 4 t ≡ take 4 u → drop (firstIn t) t ≡ drop (firstIn t) u → traced t ≡ traced u
+pub traced-between : (t u : List ℕ) → 4 ≤ length t → 4 ≤ length u → take 4 t ≡ take 4 u → drop (firstIn t) t ≡ drop (firstIn t) u
+    → traced t ≡ traced u
 unfolding traced headed
 traced-between t u l m e f =
     let word : (i : ℕ) → i + 2 ≤ 4 → wordAt t i ≡ wordAt u i =

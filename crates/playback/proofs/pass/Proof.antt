@@ -1,36 +1,49 @@
-use mathlib.Core.Path.{refl, sym, _∙_}
+use mathlib.Core.Path.{_≡_, refl, sym, _∙_}
 use native.Mathlib.Omega.{arith}
 use borrow.Author.Needs.{needs}
-use Rattle.book.specs.Book.{ours}
+use denote.Ref.{now}
+use Rattle.book.specs.declared.Answer.the-variants.{Done}
+use Rattle.book.specs.Book.{opened, ours, verdict}
 use Rattle.book.proofs.Calls.{opened-done}
 use Rattle.playback.specs.Parts.{passFrom}
 use Rattle.playback.proofs.Running.{after-none, comes-same, comes-still, pass-refused, pass-sound}
 use Rattle.playback.proofs.pass.Statement.{statement}
 use Rattle.playback.proofs.pass.Tie as tie
 
+-- past the check, the book is one that a call may use
+sound : (c : tie.After-enum-told) → Done 0 ≡ verdict (opened ours (now (c .before .before .before .before .before .before .args .book)))
+sound c = opened-done ours _ _ (sym (c .enum-told .given .1) ∙ c .before .before .ready .ensures)
+
 returns : tie.Need-returns
 returns c = pass-refused _ _ _ _ _ _ (c .before .before .ready .ensures) (c .enum-told2 .given .1)
 
 play-header-requires : tie.Need-play-header-requires
-play-header-requires c κs = opened-done ours _ _ (sym (c .before .before .before .before .enum-told .given .1) ∙ c .before .before .before .before .before .before .ready .ensures)
+play-header-requires c κs = sound (c .before .before .before .before)
 
 play-gap-requires : tie.Need-play-gap-requires
-play-gap-requires c κs = (opened-done ours _ _ (sym (c .before .before .before .before .before .enum-told .given .1) ∙ c .before .before .before .before .before .before .before .ready .ensures), omega arith)
+play-gap-requires c κs = (sound (c .before .before .before .before .before), omega arith)
 
 returns-2 : tie.Need-returns-2
 unfolding passFrom
-returns-2 c = pass-sound _ _ _ _ (opened-done ours _ _ (sym (c .before .before .before .before .before .before .before .enum-told .given .1) ∙ c .before .before .before .before .before .before .before .before .before .ready .ensures)) _ (c .before .before .before .before .enum-told3 .given .1) _ _ (c .before .before .play-header .ensures)
+returns-2 c =
+    let t = c .before .before .before .before in
+    pass-sound _ _ _ _ (sound (t .before .before .before)) _ (t .enum-told3 .given .1) _ _ (c .before .before .play-header .ensures)
 
 returns-3 : tie.Need-returns-3
 unfolding passFrom
 returns-3 c =
-    pass-sound _ _ _ _ (opened-done ours _ _ (sym (c .before .before .before .before .before .before .before .before .enum-told .given .1) ∙ c .before .before .before .before .before .before .before .before .before .before .ready .ensures)) _ (c .before .before .before .before .before .stage .given .1) _ _ (comes-same _ _ _ _ _ (after-none _) (c .before .before .play-gap .ensures))
+    let t = c .before .before .before .before .before in
+    pass-sound _ _ _ _ (sound (t .before .before .before)) _ (t .stage .given .1) _ _
+    (comes-same _ _ _ _ _ (after-none _) (c .before .before .play-gap .ensures))
 
 returns-4 : tie.Need-returns-4
 unfolding passFrom
 returns-4 c =
-    let e = (opened-done ours _ _ (sym (c .before .before .before .before .before .enum-told .given .1) ∙ c .before .before .before .before .before .before .before .ready .ensures)) in
-    pass-sound _ _ _ _ e _ (c .before .before .stage2 .given .1) _ _ (comes-still _ _ _ _ _ _ (λ i. c .before .before .before .before .before .before .before .before .before .before .slice-known .given i .fits) e refl (c .halt .ensures))
+    let t = c .before .before in
+    let e = t .before .before .before in
+    let s = e .before .before .before .before .before in
+    pass-sound _ _ _ _ (sound e) _ (t .stage2 .given .1) _ _
+    (comes-still _ _ _ _ _ _ (λ i. s .slice-known .given i .fits) (sound e) refl (c .halt .ensures))
 
 pub pass-spec : {M : Type 1} → statement M
 pass-spec =

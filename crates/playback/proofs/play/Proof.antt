@@ -9,8 +9,12 @@ returns c = play-refused _ _ _ _ _ _ (c .before .before .before .before .before 
 
 returns-2 : tie.Need-returns-2
 returns-2 c =
-    play-made _ _ _ _ _ (c .before .before .before .before .before .before .before .before .before .before .before .make .ensures) (c .before .before .before .before .before .before .before .enum-told .given .1) (omega (arith, c .before .before .before .before .before .before .before .before .before .before .before .before .before .before .before .good .0 .0)) (λ i. c .before .before .before .before .before .before .before .before .before .before .before .before .before .before .shared-slice-known .given i .fits)
-    _ (c .before .before .before .before .before .before .start .ensures) _ _ (c .before .before .before .before .pass .ensures) _ (c .end .ensures)
+    let p = c .before .before .before .before in
+    let s = p .before .before in
+    let m = s .before .before .before .before .before in
+    let t = m .before .before .before in
+    play-made _ _ _ _ _ (m .make .ensures) (s .before .enum-told .given .1) (omega (arith, t .before .good .0 .0))
+    (λ i. t .shared-slice-known .given i .fits) _ (s .start .ensures) _ _ (p .pass .ensures) _ (c .end .ensures)
 
 pub play-spec : {M : Type 1} → statement M
 play-spec =

@@ -40,33 +40,49 @@ loop-less c = omega arith
 
 returns : tie.Need-returns Inv-loop μ-loop
 returns c =
-    along-stop _ _ _ _ _ _ _ _ _ (c .before .before .before .before .before .before .loop .inv .1) (omega arith) (size-none (now (c .before .before .before .before .before .before .before .before .before .args .part)) (c .before .before .before .before .before .before .loop .i) _ (c .before .before .before .before .size-at .ensures) (omega arith))
+    let z = c .before .before .before .before in
+    let l = z .before .before in
+    along-stop _ _ _ _ _ _ _ _ _ (l .loop .inv .1) (omega arith)
+    (size-none (now (l .before .before .before .args .part)) (l .loop .i) _ (z .size-at .ensures) (omega arith))
     (sym (c .before .before .is-hopeless .ensures) ∙ c .before .if2 .taken) _ (c .halt .ensures)
 
 returns-2 : tie.Need-returns-2 Inv-loop μ-loop
 returns-2 c =
-    along-wait _ _ _ _ _ _ _ _ _ (c .before .before .before .before .before .before .loop .inv .1) (omega arith) (size-none (now (c .before .before .before .before .before .before .before .before .before .args .part)) (c .before .before .before .before .before .before .loop .i) _ (c .before .before .before .before .size-at .ensures) (omega arith))
+    let z = c .before .before .before .before in
+    let l = z .before .before in
+    along-wait _ _ _ _ _ _ _ _ _ (l .loop .inv .1) (omega arith)
+    (size-none (now (l .before .before .before .args .part)) (l .loop .i) _ (z .size-at .ensures) (omega arith))
     (sym (c .before .before .is-hopeless .ensures) ∙ c .before .if2 .left) _ (c .halt2 .ensures)
 
 add-turn : tie.Need-add-turn Inv-loop μ-loop
 add-turn c =
-    record { fits = omega (arith, size-fits (now (c .before .before .before .before .before .before .before .args .part)) (c .before .before .before .before .loop .i) (c .before .before .size-at .result) (c .before .before .size-at .ensures) (omega arith) .2) }
+    let z = c .before .before in
+    let l = z .before .before in
+    record { fits = omega (arith, size-fits (now (l .before .before .before .args .part)) (l .loop .i) (z .size-at .result) (z .size-at .ensures) (omega arith) .2) }
 
 turn-requires : tie.Need-turn-requires Inv-loop μ-loop
 turn-requires c κs =
-    let f = size-fits (now (c .before .before .before .before .before .before .before .args .part)) (c .before .before .before .before .loop .i) (c .before .before .size-at .result) (c .before .before .size-at .ensures) (omega arith) in (f .0, ap (λ (n : ℕ). c .before .before .before .before .loop .i + n) (f .1), f .2)
+    let z = c .before .before in
+    let l = z .before .before in
+    let f = size-fits (now (l .before .before .before .args .part)) (l .loop .i) (z .size-at .result) (z .size-at .ensures) (omega arith) in
+    (f .0, ap (λ (n : ℕ). l .loop .i + n) (f .1), f .2)
 
 add-i : tie.Need-add-i Inv-loop μ-loop
 add-i c =
-    record { fits = omega (arith, size-fits (now (c .before .before .before .before .before .before .before .before .before .before .before .args .part)) (c .before .before .before .before .before .before .before .before .loop .i) (c .before .before .before .before .before .before .size-at .result) (c .before .before .before .before .before .before .size-at .ensures) (omega arith) .2) }
+    let z = c .before .before .before .before .before .before in
+    let l = z .before .before in
+    record { fits = omega (arith, size-fits (now (l .before .before .before .args .part)) (l .loop .i) (z .size-at .result) (z .size-at .ensures) (omega arith) .2) }
 
 loop-again : tie.Need-loop-again Inv-loop μ-loop
-loop-again c = (
-  c .before .before .before .turn .kept .1 .0 ∙ c .before .before .before .before .before .before .before .before .loop .inv .0,
-  rw (c .onward .ensures)
-      (along-next _ _ _ _ _ _ _ _ _ (c .before .before .before .before .before .before .before .before .loop .inv .1) _ _ _ _ (omega arith)
-      (size-fits (now (c .before .before .before .before .before .before .before .before .before .before .before .args .part)) (c .before .before .before .before .before .before .before .before .loop .i) _ (c .before .before .before .before .before .before .size-at .ensures) (omega arith)) (c .before .before .before .turn .ensures)),
-)
+loop-again c =
+    let t = c .before .before .before in
+    let z = t .before .before .before in
+    let l = z .before .before in (
+      t .turn .kept .1 .0 ∙ l .loop .inv .0,
+      rw (c .onward .ensures)
+          (along-next _ _ _ _ _ _ _ _ _ (l .loop .inv .1) _ _ _ _ (omega arith)
+          (size-fits (now (l .before .before .before .args .part)) (l .loop .i) _ (z .size-at .ensures) (omega arith)) (t .turn .ensures)),
+    )
 
 returns-3 : tie.Need-returns-3 Inv-loop μ-loop
 returns-3 c = along-end _ _ _ _ _ _ _ _ _ (c .before .before .loop .inv .1) (omega arith) _ (c .halt3 .ensures)

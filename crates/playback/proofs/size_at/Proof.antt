@@ -18,10 +18,14 @@ returns-3 c = size-unknown (now (c .before .before .before .before .before .args
 
 returns-4 : tie.Need-returns-4
 returns-4 c =
-    ap (λ (n : ℕ). n + 2) (c .before .wide .ensures .0) ∙ size-whole (now (c .before .before .before .before .before .before .before .before .args .part)) (c .before .before .before .before .before .before .before .before .args .i) (omega arith) (omega (arith, c .before .wide .ensures .0))
+    let s = c .before .before .before .before .before .before .before .before in
+    ap (λ (n : ℕ). n + 2) (c .before .wide .ensures .0)
+    ∙ size-whole (now (s .args .part)) (s .args .i) (omega arith) (omega (arith, c .before .wide .ensures .0))
 
 returns-5 : tie.Need-returns-5
-returns-5 c = size-cut (now (c .before .before .before .before .before .before .before .before .args .part)) (c .before .before .before .before .before .before .before .before .args .i) (omega (arith, c .before .wide .ensures .0))
+returns-5 c =
+    let s = c .before .before .before .before .before .before .before .before in
+    size-cut (now (s .args .part)) (s .args .i) (omega (arith, c .before .wide .ensures .0))
 
 pub size-at-spec : {M : Type 1} → statement M
 size-at-spec =
