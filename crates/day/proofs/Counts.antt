@@ -13,7 +13,7 @@ use mathlib.Core.List.{List, [], _∷_}
 use mathlib.Core.Logic.{_⊎_, inl, inr}
 use Prim.Native.Nat.{ℕ, zero, suc, _+_, _≤_, _<_}
 use native.Mathlib.Omega.{arith}
-use lib.Dec.{eqb, leb, ltb}
+use lib.Dec.{leb, ltb}
 use lib.ListN.{length, getD, set, replicate, length-set}
 use borrow.Author.Tests.{not-true}
 use Rattle.table.specs.Table.{settings}
@@ -24,12 +24,6 @@ use Rattle.refusal.specs.declared.Refusal.the-variants.{NoRoom, NotHeld, NotWel
 use Rattle.refusal.specs.Numbers.{numberOf}
 use Rattle.decoder.specs.Decoding.{Reading, reading, refuses, decode}
 use Rattle.codec.proofs.Places.{decode-own}
-use Rattle.cmd_lora.specs.Responses.{loraRxStatsRsp, loraPacketStatusRsp}
-use Rattle.cmd_fsk.specs.Responses.{fskRxStatsRsp, fskPacketStatusRsp}
-use Rattle.cmd_lora.specs.declared.rsp.LoraRxStatsRead.the-variants as loraRxStats
-use Rattle.cmd_lora.specs.declared.rsp.LoraPacketStatusRead.the-variants as loraPacketStatus
-use Rattle.cmd_fsk.specs.declared.rsp.FskRxStatsRead.the-variants as fskRxStats
-use Rattle.cmd_fsk.specs.declared.rsp.FskPacketStatusRead.the-variants as fskPacketStatus
 use Rattle.contents.specs.Frames.{flat}
 use Rattle.contents.specs.Contents.{image, longest, roomOf, start}
 use Rattle.book.specs.declared.Answer.{Answer}
@@ -40,9 +34,9 @@ use Rattle.book.specs.History.{BytesRun, Heard, after, onBytes, onList, turn}
 use Rattle.book.proofs.History.{history}
 use Rattle.day.specs.declared.Day.{Day}
 use Rattle.day.specs.Days.{acceptedOne, bumped, fresh, isAction, kindIn, missed, most, noted, onReceived, plus, refusedOne, tallied}
-use Rattle.day.specs.Days.{heardLoraRxStats, heardLoraPacketStatus, heardFskRxStats, heardFskPacketStatus}
 use Rattle.day.specs.Steps.{Record, State, dayOn, morning, onSent, received, sent, step}
 use Rattle.day.specs.Tally.{accepts, acceptedFrom, isReading, puts, puttable, sum, unread}
+use Rattle.day.proofs.Answers.{answered, fsk-packet, fsk-stats, lora-packet, lora-stats}
 use Rattle.day.proofs.Days.{plus-fits, tally-counted}
 
 -- ---- one count more
@@ -286,54 +280,17 @@ module _ (n : ℕ) (b : List ℕ) (d : Day) (R : Roomy (suc n) d) where
         roomy = record { puts = omega (arith, R .puts); skips = omega (arith, R .skips, one); all = omega (arith, R .all, one-more); nine = R .nine };
       }
 
-  -- an answer is a reading or missed, by its length
-  heard-or-missed : (e : Day) × Hears d e × (onReceived b d ≡ cond (isReading (d .latest) b) e (missed d))
-  unfolding onReceived
-  heard-or-missed =
-      go (eqb (d .latest) 9) (eqb (d .latest) 10) (eqb (d .latest) 22) (eqb (d .latest) 23) (eqb (length b) 12) (eqb (length b) 8) (eqb (length b) 16)
-    where
-      none : Hears d (record {
-        latest = d .latest;
-        «lora_rx_stats» = d .«lora_rx_stats»;
-        «lora_packet_status» = d .«lora_packet_status»;
-        «fsk_rx_stats» = d .«fsk_rx_stats»;
-        «fsk_packet_status» = d .«fsk_packet_status»;
-        accepted = d .accepted;
-        refused = d .refused;
-        skipped = d .skipped;
-        records = plus (d .records) 1;
-      })
-      none = record { latest = refl; accepted = refl; refused = refl; skipped = refl; records = refl }
-
-      hears : {e : Day} → e .latest ≡ d .latest → e .accepted ≡ d .accepted → e .refused ≡ d .refused → e .skipped ≡ d .skipped
-          → e .records ≡ plus (d .records) 1 → Hears d e
-      hears l a r s n = record { latest = l; accepted = a; refused = r; skipped = s; records = n }
-
-      go : (i j k l u v w : Bool)
-          → (e : Day)
-          × Hears d e
-          × (cond i (heardLoraRxStats (cond u (loraRxStats.Rsp (loraRxStatsRsp b)) (loraRxStats.Refused ResponseLength)) d)
-          (cond j (heardLoraPacketStatus (cond v (loraPacketStatus.Rsp (loraPacketStatusRsp b)) (loraPacketStatus.Refused ResponseLength)) d)
-          (cond k (heardFskRxStats (cond w (fskRxStats.Rsp (fskRxStatsRsp b)) (fskRxStats.Refused ResponseLength)) d)
-          (cond l (heardFskPacketStatus (cond v (fskPacketStatus.Rsp (fskPacketStatusRsp b)) (fskPacketStatus.Refused ResponseLength)) d)
-          (missed d))))
-          ≡ cond (cond i u (cond j v (cond k w (cond l v false)))) e (missed d))
-      go true j k l true v w = (_, hears refl refl refl refl refl, refl)
-      go true j k l false v w = (_, none, refl)
-      go false true k l u true w = (_, hears refl refl refl refl refl, refl)
-      go false true k l u false w = (_, none, refl)
-      go false false true l u v true = (_, hears refl refl refl refl refl, refl)
-      go false false true l u v false = (_, none, refl)
-      go false false false true u true w = (_, hears refl refl refl refl refl, refl)
-      go false false false true u false w = (_, none, refl)
-      go false false false false u v w = (_, none, refl)
-
   pub received-is : Receives n b d (onReceived b d)
-  received-is = subst (Receives n b d) (sym (heard-or-missed .2)) (go (isReading (d .latest) b) refl)
+  received-is =
+      answered b d (Receives n b d)
+      (λ e l. hears-is (lora-stats b d) (record { latest = refl; accepted = refl; refused = refl; skipped = refl; records = refl }) (is-one 9 e l))
+      (λ e l. hears-is (lora-packet b d) (record { latest = refl; accepted = refl; refused = refl; skipped = refl; records = refl }) (is-one 10 e l))
+      (λ e l. hears-is (fsk-stats b d) (record { latest = refl; accepted = refl; refused = refl; skipped = refl; records = refl }) (is-one 22 e l))
+      (λ e l. hears-is (fsk-packet b d) (record { latest = refl; accepted = refl; refused = refl; skipped = refl; records = refl }) (is-one 23 e l))
+      missed-is
     where
-      go : (t : Bool) → isReading (d .latest) b ≡ t → Receives n b d (cond t (heard-or-missed .0) (missed d))
-      go true e = hears-is (heard-or-missed .0) (heard-or-missed .1) e
-      go false e = missed-is e
+      is-one : (k : ℕ) → d .latest ≡ k → isReading k b ≡ true → isReading (d .latest) b ≡ true
+      is-one k e l = ap (λ (j : ℕ). isReading j b) e ∙ l
 
 -- ---- the counts of a day
 

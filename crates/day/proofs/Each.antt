@@ -14,15 +14,10 @@ use lib.ListN.{length, getD, getD-replicate, set, replicate}
 use lib.Seq.{getD-set-other, getD-set-same}
 use borrow.Author.Tests.{eqb-true, eqb-false, ne-eqb}
 use Rattle.refusal.specs.declared.Refusal.{Refusal}
-use Rattle.refusal.specs.declared.Refusal.the-variants.{ResponseLength}
 use Rattle.refusal.specs.Numbers.{numberOf}
 use Rattle.decoder.specs.Decoding.{decode}
 use Rattle.cmd_lora.specs.Responses.{loraRxStatsRsp, loraPacketStatusRsp}
 use Rattle.cmd_fsk.specs.Responses.{fskRxStatsRsp, fskPacketStatusRsp}
-use Rattle.cmd_lora.specs.declared.rsp.LoraRxStatsRead.the-variants as loraRxStats
-use Rattle.cmd_lora.specs.declared.rsp.LoraPacketStatusRead.the-variants as loraPacketStatus
-use Rattle.cmd_fsk.specs.declared.rsp.FskRxStatsRead.the-variants as fskRxStats
-use Rattle.cmd_fsk.specs.declared.rsp.FskPacketStatusRead.the-variants as fskPacketStatus
 use Rattle.book.specs.declared.Answer.{Answer}
 use Rattle.book.specs.declared.Answer.the-variants.{Done, Refused}
 use Rattle.book.specs.Plain.{placed, putOn}
@@ -32,10 +27,10 @@ use Rattle.day.specs.declared.LastLoraPacketStatus.the-variants as lastL
 use Rattle.day.specs.declared.LastFskRxStats.the-variants as lastFskRxStats
 use Rattle.day.specs.declared.LastFskPacketStatus.the-variants as lastFskPacketStatus
 use Rattle.day.specs.Days.{acceptedOne, bumped, fresh, isAction, kindIn, missed, most, noted, onReceived, plus, refusedOne, tallied}
-use Rattle.day.specs.Days.{heardLoraRxStats, heardLoraPacketStatus, heardFskRxStats, heardFskPacketStatus}
 use Rattle.day.specs.Steps.{Record, State, dayOn, morning, onSent, received, sent, step}
 use Rattle.day.specs.Tally.{accepts, answersTo, newest, refusedFrom, refusesBy}
 use Rattle.day.proofs.Days.{plus-fits, tally-counted}
+use Rattle.day.proofs.Answers.{answered, reads-of}
 use Rattle.day.proofs.Counts.{Putting, Roomy, fresh-roomy, one-of-sum, put-number, putting-small, received-is, sent-frames, sent-is}
 
 -- ---- the latest command
@@ -65,137 +60,13 @@ latest-sent room f s = go (isAction (decode f))
 -- ---- an answer
 
 module _ (b : List ℕ) (d : Day) where
-  abbrev lora-stats : Bool → Day
-  lora-stats u = heardLoraRxStats (cond u (loraRxStats.Rsp (loraRxStatsRsp b)) (loraRxStats.Refused ResponseLength)) d
-
-  abbrev lora-packet : Bool → Day
-  lora-packet v = heardLoraPacketStatus (cond v (loraPacketStatus.Rsp (loraPacketStatusRsp b)) (loraPacketStatus.Refused ResponseLength)) d
-
-  abbrev fsk-stats : Bool → Day
-  fsk-stats w = heardFskRxStats (cond w (fskRxStats.Rsp (fskRxStatsRsp b)) (fskRxStats.Refused ResponseLength)) d
-
-  abbrev fsk-packet : Bool → Day
-  fsk-packet v = heardFskPacketStatus (cond v (fskPacketStatus.Rsp (fskPacketStatusRsp b)) (fskPacketStatus.Refused ResponseLength)) d
-
-  -- a day after an answer, by what the latest command and the length are
-  abbrev by : Bool → Bool → Bool → Bool → Bool → Bool → Bool → Day
-  by i j k l u v w = cond i (lora-stats u) (cond j (lora-packet v) (cond k (fsk-stats w) (cond l (fsk-packet v) (missed d))))
-
   latest-received : onReceived b d .latest ≡ d .latest
-  unfolding onReceived missed
-  latest-received = go (eqb (d .latest) 9) (eqb (d .latest) 10) (eqb (d .latest) 22) (eqb (d .latest) 23) (eqb (length b) 12) (eqb (length b) 8) (eqb (length b) 16)
-    where
-      go : (i j k l u v w : Bool) → by i j k l u v w .latest ≡ d .latest
-      go true j k l true v w = refl
-      go true j k l false v w = refl
-      go false true k l u true w = refl
-      go false true k l u false w = refl
-      go false false true l u v true = refl
-      go false false true l u v false = refl
-      go false false false true u true w = refl
-      go false false false true u false w = refl
-      go false false false false u v w = refl
+  unfolding missed
+  latest-received = answered b d (λ e. e .latest ≡ d .latest) (λ _ _. refl) (λ _ _. refl) (λ _ _. refl) (λ _ _. refl) (λ _. refl)
 
   refused-received : onReceived b d .refused ≡ d .refused
-  unfolding onReceived missed
-  refused-received = go (eqb (d .latest) 9) (eqb (d .latest) 10) (eqb (d .latest) 22) (eqb (d .latest) 23) (eqb (length b) 12) (eqb (length b) 8) (eqb (length b) 16)
-    where
-      go : (i j k l u v w : Bool) → by i j k l u v w .refused ≡ d .refused
-      go true j k l true v w = refl
-      go true j k l false v w = refl
-      go false true k l u true w = refl
-      go false true k l u false w = refl
-      go false false true l u v true = refl
-      go false false true l u v false = refl
-      go false false false true u true w = refl
-      go false false false true u false w = refl
-      go false false false false u v w = refl
-
-  -- no command is of two kinds
-  one-kind : (m n : ℕ) → (m ≡ n → ⊥) → eqb (d .latest) m ≡ true → eqb (d .latest) n ≡ true → ⊥
-  one-kind m n h e f = h (sym (eqb-true (d .latest) m e) ∙ eqb-true (d .latest) n f)
-
-  nine : onReceived b d .«lora_rx_stats» ≡ cond (cond (eqb (d .latest) 9) (eqb (length b) 12) false) (lastLoraRxStats.Last (loraRxStatsRsp b)) (d .«lora_rx_stats»)
-  unfolding onReceived missed
-  nine =
-      go (eqb (d .latest) 9) refl (eqb (d .latest) 10) refl (eqb (d .latest) 22) refl (eqb (d .latest) 23) refl (eqb (length b) 12) (eqb (length b) 8)
-      (eqb (length b) 16)
-    where
-      go : (i : Bool) → eqb (d .latest) 9 ≡ i → (j : Bool) → eqb (d .latest) 10 ≡ j → (k : Bool) → eqb (d .latest) 22 ≡ k → (l : Bool)
-          → eqb (d .latest) 23 ≡ l → (u v w : Bool)
-          → by i j k l u v w .«lora_rx_stats» ≡ cond (cond i u false) (lastLoraRxStats.Last (loraRxStatsRsp b)) (d .«lora_rx_stats»)
-      go true e0 j e1 k e2 l e3 true v w = refl
-      go true e0 j e1 k e2 l e3 false v w = refl
-      go false e0 true e1 k e2 l e3 u true w = refl
-      go false e0 true e1 k e2 l e3 u false w = refl
-      go false e0 false e1 true e2 l e3 u v true = refl
-      go false e0 false e1 true e2 l e3 u v false = refl
-      go false e0 false e1 false e2 true e3 u true w = refl
-      go false e0 false e1 false e2 true e3 u false w = refl
-      go false e0 false e1 false e2 false e3 u v w = refl
-
-  ten : onReceived b d .«lora_packet_status» ≡ cond (cond (eqb (d .latest) 10) (eqb (length b) 8) false) (lastLoraPacketStatus.Last (loraPacketStatusRsp b)) (d .«lora_packet_status»)
-  unfolding onReceived missed
-  ten =
-      go (eqb (d .latest) 9) refl (eqb (d .latest) 10) refl (eqb (d .latest) 22) refl (eqb (d .latest) 23) refl (eqb (length b) 12) (eqb (length b) 8)
-      (eqb (length b) 16)
-    where
-      go : (i : Bool) → eqb (d .latest) 9 ≡ i → (j : Bool) → eqb (d .latest) 10 ≡ j → (k : Bool) → eqb (d .latest) 22 ≡ k → (l : Bool)
-          → eqb (d .latest) 23 ≡ l → (u v w : Bool)
-          → by i j k l u v w .«lora_packet_status» ≡ cond (cond j v false) (lastLoraPacketStatus.Last (loraPacketStatusRsp b)) (d .«lora_packet_status»)
-      go true e0 true e1 k e2 l e3 u v w = absurd (one-kind 9 10 (λ h. omega (arith, h)) e0 e1)
-      go true e0 false e1 k e2 l e3 true v w = refl
-      go true e0 false e1 k e2 l e3 false v w = refl
-      go false e0 true e1 k e2 l e3 u true w = refl
-      go false e0 true e1 k e2 l e3 u false w = refl
-      go false e0 false e1 true e2 l e3 u v true = refl
-      go false e0 false e1 true e2 l e3 u v false = refl
-      go false e0 false e1 false e2 true e3 u true w = refl
-      go false e0 false e1 false e2 true e3 u false w = refl
-      go false e0 false e1 false e2 false e3 u v w = refl
-
-  twenty-two : onReceived b d .«fsk_rx_stats» ≡ cond (cond (eqb (d .latest) 22) (eqb (length b) 16) false) (lastFskRxStats.Last (fskRxStatsRsp b)) (d .«fsk_rx_stats»)
-  unfolding onReceived missed
-  twenty-two =
-      go (eqb (d .latest) 9) refl (eqb (d .latest) 10) refl (eqb (d .latest) 22) refl (eqb (d .latest) 23) refl (eqb (length b) 12) (eqb (length b) 8)
-      (eqb (length b) 16)
-    where
-      go : (i : Bool) → eqb (d .latest) 9 ≡ i → (j : Bool) → eqb (d .latest) 10 ≡ j → (k : Bool) → eqb (d .latest) 22 ≡ k → (l : Bool)
-          → eqb (d .latest) 23 ≡ l → (u v w : Bool)
-          → by i j k l u v w .«fsk_rx_stats» ≡ cond (cond k w false) (lastFskRxStats.Last (fskRxStatsRsp b)) (d .«fsk_rx_stats»)
-      go true e0 j e1 true e2 l e3 u v w = absurd (one-kind 9 22 (λ h. omega (arith, h)) e0 e2)
-      go true e0 j e1 false e2 l e3 true v w = refl
-      go true e0 j e1 false e2 l e3 false v w = refl
-      go false e0 true e1 true e2 l e3 u v w = absurd (one-kind 10 22 (λ h. omega (arith, h)) e1 e2)
-      go false e0 true e1 false e2 l e3 u true w = refl
-      go false e0 true e1 false e2 l e3 u false w = refl
-      go false e0 false e1 true e2 l e3 u v true = refl
-      go false e0 false e1 true e2 l e3 u v false = refl
-      go false e0 false e1 false e2 true e3 u true w = refl
-      go false e0 false e1 false e2 true e3 u false w = refl
-      go false e0 false e1 false e2 false e3 u v w = refl
-
-  twenty-three : onReceived b d .«fsk_packet_status» ≡ cond (cond (eqb (d .latest) 23) (eqb (length b) 8) false) (lastFskPacketStatus.Last (fskPacketStatusRsp b)) (d .«fsk_packet_status»)
-  unfolding onReceived missed
-  twenty-three =
-      go (eqb (d .latest) 9) refl (eqb (d .latest) 10) refl (eqb (d .latest) 22) refl (eqb (d .latest) 23) refl (eqb (length b) 12) (eqb (length b) 8)
-      (eqb (length b) 16)
-    where
-      go : (i : Bool) → eqb (d .latest) 9 ≡ i → (j : Bool) → eqb (d .latest) 10 ≡ j → (k : Bool) → eqb (d .latest) 22 ≡ k → (l : Bool)
-          → eqb (d .latest) 23 ≡ l → (u v w : Bool)
-          → by i j k l u v w .«fsk_packet_status» ≡ cond (cond l v false) (lastFskPacketStatus.Last (fskPacketStatusRsp b)) (d .«fsk_packet_status»)
-      go true e0 j e1 k e2 true e3 u v w = absurd (one-kind 9 23 (λ h. omega (arith, h)) e0 e3)
-      go true e0 j e1 k e2 false e3 true v w = refl
-      go true e0 j e1 k e2 false e3 false v w = refl
-      go false e0 true e1 k e2 true e3 u v w = absurd (one-kind 10 23 (λ h. omega (arith, h)) e1 e3)
-      go false e0 true e1 k e2 false e3 u true w = refl
-      go false e0 true e1 k e2 false e3 u false w = refl
-      go false e0 false e1 true e2 true e3 u v w = absurd (one-kind 22 23 (λ h. omega (arith, h)) e2 e3)
-      go false e0 false e1 true e2 false e3 u v true = refl
-      go false e0 false e1 true e2 false e3 u v false = refl
-      go false e0 false e1 false e2 true e3 u true w = refl
-      go false e0 false e1 false e2 true e3 u false w = refl
-      go false e0 false e1 false e2 false e3 u v w = refl
+  unfolding missed
+  refused-received = answered b d (λ e. e .refused ≡ d .refused) (λ _ _. refl) (λ _ _. refl) (λ _ _. refl) (λ _ _. refl) (λ _. refl)
 
 -- ---- the last readings
 
@@ -248,29 +119,57 @@ module _ {X : Type 0} (get : Day → X) (read : List ℕ → X) (k m : ℕ) (R :
 -- ---- of the four requests
 
 module _ (room : ℕ) (rs : List Record) where
-  pub last-lora-rx-stats : dayOn room rs morning .day .«lora_rx_stats» ≡ newest (λ b. lastLoraRxStats.Last (loraRxStatsRsp b)) lastLoraRxStats.Never (answersTo 9 12 0 rs)
-  unfolding fresh noted acceptedOne refusedOne
+  pub last-lora-rx-stats :
+      dayOn room rs morning .day .«lora_rx_stats» ≡ newest (λ b. lastLoraRxStats.Last (loraRxStatsRsp b)) lastLoraRxStats.Never (answersTo 9 12 0 rs)
+  unfolding fresh noted acceptedOne refusedOne missed
   last-lora-rx-stats =
       last-from (λ d. d .«lora_rx_stats») (λ b. lastLoraRxStats.Last (loraRxStatsRsp b)) 9 12
-      (record { kept = λ j d. refl; accepts = λ d. refl; refuses = λ n d. refl; reads = λ b d. nine b d }) room rs morning
+      (record {
+        kept = λ j d. refl;
+        accepts = λ d. refl;
+        refuses = λ n d. refl;
+        reads = λ b d. reads-of b d (λ e. e .«lora_rx_stats») (lastLoraRxStats.Last (loraRxStatsRsp b)) 9 12 refl refl refl refl refl refl;
+      })
+      room rs morning
 
-  pub last-lora-packet-status : dayOn room rs morning .day .«lora_packet_status» ≡ newest (λ b. lastLoraPacketStatus.Last (loraPacketStatusRsp b)) lastLoraPacketStatus.Never (answersTo 10 8 0 rs)
-  unfolding fresh noted acceptedOne refusedOne
+  pub last-lora-packet-status :
+      dayOn room rs morning .day .«lora_packet_status» ≡ newest (λ b. lastLoraPacketStatus.Last (loraPacketStatusRsp b)) lastLoraPacketStatus.Never (answersTo 10 8 0 rs)
+  unfolding fresh noted acceptedOne refusedOne missed
   last-lora-packet-status =
       last-from (λ d. d .«lora_packet_status») (λ b. lastLoraPacketStatus.Last (loraPacketStatusRsp b)) 10 8
-      (record { kept = λ j d. refl; accepts = λ d. refl; refuses = λ n d. refl; reads = λ b d. ten b d }) room rs morning
+      (record {
+        kept = λ j d. refl;
+        accepts = λ d. refl;
+        refuses = λ n d. refl;
+        reads = λ b d. reads-of b d (λ e. e .«lora_packet_status») (lastLoraPacketStatus.Last (loraPacketStatusRsp b)) 10 8 refl refl refl refl refl refl;
+      })
+      room rs morning
 
-  pub last-fsk-rx-stats : dayOn room rs morning .day .«fsk_rx_stats» ≡ newest (λ b. lastFskRxStats.Last (fskRxStatsRsp b)) lastFskRxStats.Never (answersTo 22 16 0 rs)
-  unfolding fresh noted acceptedOne refusedOne
+  pub last-fsk-rx-stats :
+      dayOn room rs morning .day .«fsk_rx_stats» ≡ newest (λ b. lastFskRxStats.Last (fskRxStatsRsp b)) lastFskRxStats.Never (answersTo 22 16 0 rs)
+  unfolding fresh noted acceptedOne refusedOne missed
   last-fsk-rx-stats =
       last-from (λ d. d .«fsk_rx_stats») (λ b. lastFskRxStats.Last (fskRxStatsRsp b)) 22 16
-      (record { kept = λ j d. refl; accepts = λ d. refl; refuses = λ n d. refl; reads = λ b d. twenty-two b d }) room rs morning
+      (record {
+        kept = λ j d. refl;
+        accepts = λ d. refl;
+        refuses = λ n d. refl;
+        reads = λ b d. reads-of b d (λ e. e .«fsk_rx_stats») (lastFskRxStats.Last (fskRxStatsRsp b)) 22 16 refl refl refl refl refl refl;
+      })
+      room rs morning
 
-  pub last-fsk-packet-status : dayOn room rs morning .day .«fsk_packet_status» ≡ newest (λ b. lastFskPacketStatus.Last (fskPacketStatusRsp b)) lastFskPacketStatus.Never (answersTo 23 8 0 rs)
-  unfolding fresh noted acceptedOne refusedOne
+  pub last-fsk-packet-status :
+      dayOn room rs morning .day .«fsk_packet_status» ≡ newest (λ b. lastFskPacketStatus.Last (fskPacketStatusRsp b)) lastFskPacketStatus.Never (answersTo 23 8 0 rs)
+  unfolding fresh noted acceptedOne refusedOne missed
   last-fsk-packet-status =
       last-from (λ d. d .«fsk_packet_status») (λ b. lastFskPacketStatus.Last (fskPacketStatusRsp b)) 23 8
-      (record { kept = λ j d. refl; accepts = λ d. refl; refuses = λ n d. refl; reads = λ b d. twenty-three b d }) room rs morning
+      (record {
+        kept = λ j d. refl;
+        accepts = λ d. refl;
+        refuses = λ n d. refl;
+        reads = λ b d. reads-of b d (λ e. e .«fsk_packet_status») (lastFskPacketStatus.Last (fskPacketStatusRsp b)) 23 8 refl refl refl refl refl refl;
+      })
+      room rs morning
 
 -- ---- refusals by each number
 

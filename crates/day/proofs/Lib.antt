@@ -1,4 +1,5 @@
 pub mod Days
+pub mod Answers
 pub mod Counts
 pub mod Each
 pub mod Steps
