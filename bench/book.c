@@ -1,14 +1,16 @@
 // The book, ours beside Rust's: each call on many books that were made before the clock starts.
-enum { ROOM = 300, SETTINGS = 29, POOL = 16, REPLAY = 256 };
+enum { ROOM = 300, SETTINGS = 29, HELD = 26, POOL = 16, REPLAY = 256 };
 
 static const int settings[SETTINGS] = {1, 2, 3, 4, 5, 6, 7, 11, 12, 13, 14, 15, 16, 17, 18, 19, 20, 21, 24, 25, 26, 27, 28, 31, 33, 34, 35,
     38, 39};
+// Where the longer forms of 5, 25 and 27 stand in that list; a book holds one of the two.
+static const int longer[3] = {5, 20, 22};
 typedef struct { u8 bytes[12]; int size; } frame;
 static frame pool[SETTINGS][POOL];
 
 // The books before and in a call, the frame that a put gets, and the kind that the others get.
 static u8 before[SETS][ROOM], book[SETS][ROOM], lent[REPLAY];
-static frame given_frame[SETS];
+static frame given_frame[SETS], then_frame[SETS];
 static u64 given_kind[SETS];
 // The one book that is only asked, and its length.
 static u8 empty[4096];
@@ -19,6 +21,7 @@ typedef u64 (*on_book)(int);
     u64 s##_make(u8 *, u64), s##_put(u8 *, u64, const u8 *, u64), s##_remove(u8 *, u64, u64); \
     u64 s##_ask(const u8 *, u64, u64, u8 *, u64), s##_replay(const u8 *, u64, u8 *, u64); \
     static u64 s##_puts(int i) { return s##_put(book[i], ROOM, given_frame[i].bytes, given_frame[i].size); } \
+    static u64 s##_swaps(int i) { return s##_puts(i) + s##_put(book[i], ROOM, then_frame[i].bytes, then_frame[i].size); } \
     static u64 s##_removes(int i) { return s##_remove(book[i], ROOM, given_kind[i]); } \
     static u64 s##_asks(int i) { return s##_ask(book[i], ROOM, given_kind[i], lent, 12); } \
     static u64 s##_replays(int i) { return s##_replay(book[i], ROOM, lent, REPLAY); } \
@@ -45,23 +48,62 @@ static void make_pool(void) {
     }
 }
 
-// Books of n frames in random order. Where the last is to be new, it is not in the book yet; else it is another frame of one that is.
+static int other_form(int s) {
+    for (int i = 0; i < 3; i++) {
+        if (s == longer[i]) return s - 1;
+        if (s == longer[i] - 1) return s + 1;
+    }
+    return -1;
+}
+
+// One form of each setting, in random order.
+static void any_order(int *order) {
+    int all[SETTINGS], kept = 0;
+    for (int j = 0; j < SETTINGS; j++) {
+        int k = next() % (j + 1);
+        all[j] = all[k];
+        all[k] = j;
+    }
+    for (int j = 0; j < SETTINGS; j++) {
+        int k = 0;
+        while (k < kept && order[k] != other_form(all[j])) k++;
+        if (k == kept) order[kept++] = all[j];
+    }
+}
+
+static const frame *any_frame(int s) { return &pool[s][next() % POOL]; }
+
+static void make_book(u8 *to, const int *order, int n) {
+    rs_make(to, ROOM);
+    for (int j = 0; j < n; j++) {
+        const frame *f = any_frame(order[j]);
+        rs_put(to, ROOM, f->bytes, f->size);
+    }
+}
+
+// Books of n frames. Where the last is to be new, it is not in the book yet; else it is another frame of one that is.
 static void make_books(int n, int is_new) {
     for (int i = 0; i < SETS; i++) {
-        int order[SETTINGS];
-        for (int j = 0; j < SETTINGS; j++) {
-            int k = next() % (j + 1);
-            order[j] = order[k];
-            order[k] = j;
-        }
-        rs_make(before[i], ROOM);
-        for (int j = 0; j < n - is_new; j++) {
-            const frame *f = &pool[order[j]][next() % POOL];
-            rs_put(before[i], ROOM, f->bytes, f->size);
-        }
+        int order[HELD];
+        any_order(order);
+        make_book(before[i], order, n - is_new);
         int last = order[is_new ? n - 1 : (int)(next() % n)];
-        given_frame[i] = pool[last][next() % POOL];
+        given_frame[i] = *any_frame(last);
         given_kind[i] = settings[last];
+    }
+}
+
+// Full books in which a longer form stands in the middle: it gives way to the shorter one, and that to a longer one.
+static void make_swaps(void) {
+    for (int i = 0; i < SETS; i++) {
+        int order[HELD], at = 0, s = longer[next() % 3];
+        any_order(order);
+        while (order[at] != s && order[at] != s - 1) at++;
+        order[at] = order[HELD / 2];
+        order[HELD / 2] = s;
+        make_book(before[i], order, HELD);
+        given_frame[i] = *any_frame(s - 1);
+        then_frame[i] = *any_frame(s);
     }
 }
 
@@ -115,17 +157,17 @@ static void asked_empty(const char *name, u64 length) {
 }
 
 static void books(void) {
-    make_pool();
     make_books(5, 1), compare("book of 4, put a 5th", hb_puts, rs_puts);
     make_books(5, 0), compare("book of 5, put over", hb_puts, rs_puts);
     compare("book of 5, remove", hb_removes, rs_removes);
     compare("book of 5, ask", hb_asks, rs_asks);
     compare("book of 5, replay", hb_replays, rs_replays);
-    make_books(29, 1), compare("book of 28, put a 29th", hb_puts, rs_puts);
-    make_books(29, 0), compare("book of 29, put over", hb_puts, rs_puts);
-    compare("book of 29, remove", hb_removes, rs_removes);
-    compare("book of 29, ask", hb_asks, rs_asks);
-    compare("book of 29, replay", hb_replays, rs_replays);
+    make_books(HELD, 1), compare("book of 25, put a 26th", hb_puts, rs_puts);
+    make_books(HELD, 0), compare("book of 26, put over", hb_puts, rs_puts);
+    compare("book of 26, remove", hb_removes, rs_removes);
+    compare("book of 26, ask", hb_asks, rs_asks);
+    compare("book of 26, replay", hb_replays, rs_replays);
+    make_swaps(), compare("book of 26, swap to short and back", hb_swaps, rs_swaps);
     asked_empty("empty book of 62 bytes, ask", 62);
     asked_empty("empty book of 1024 bytes, ask", 1024);
     asked_empty("empty book of 2048 bytes, ask", 2048);

@@ -26,6 +26,17 @@ const SLOTS: [u8; 40] = {
     slots
 };
 
+// The slots of the settings that have a short and a long form.
+const FORMS: [(usize, usize); 3] = [(4, 5), (19, 20), (21, 22)];
+
+fn other_form(slot: usize) -> Option<usize> {
+    match slot {
+        4 | 19 | 21 => Some(slot + 1),
+        5 | 20 | 22 => Some(slot - 1),
+        _ => None,
+    }
+}
+
 pub fn slot_of(kind: u64) -> Result<usize, Refusal> {
     match SLOTS.get(kind as usize) {
         Some(slot) if *slot != 255 => Ok(*slot as usize),
@@ -81,6 +92,10 @@ fn judge(book: &[u8]) -> Result<Sound, Refusal> {
     if at != end {
         return Err(NOT_WELL_FORMED);
     }
+    let held = |slot: usize| word(book, 4 + 2 * slot) != 0;
+    if FORMS.iter().any(|(short, long)| held(*short) && held(*long)) {
+        return Err((16, 0));
+    }
     Ok(Sound { end, count, frames })
 }
 
@@ -99,7 +114,8 @@ pub fn make(book: &mut [u8]) -> Answer {
 }
 
 pub fn put(book: &mut [u8], frame: &[u8]) -> Answer {
-    let end = judge(book)?.end;
+    let sound = judge(book)?;
+    let end = sound.end;
     let decoded = decode(frame);
     if decoded.refusal != 0 {
         return Err((decoded.refusal, decoded.place));
@@ -110,6 +126,11 @@ pub fn put(book: &mut [u8], frame: &[u8]) -> Answer {
         book[at..at + frame.len()].copy_from_slice(frame);
         return Ok(0);
     }
+    if let Some(other) = other_form(slot) {
+        if word(book, 4 + 2 * other) != 0 {
+            return swap(book, &sound, other, slot, frame);
+        }
+    }
     let next = end + frame.len();
     if next > book.len() {
         return Err((8, 0));
@@ -118,6 +139,29 @@ pub fn put(book: &mut [u8], frame: &[u8]) -> Answer {
     book[1] += 1;
     set_word(book, 2, next);
     set_word(book, 4 + 2 * slot, end);
+    Ok(0)
+}
+
+// A frame of one form where the other stands; the frames behind it move.
+fn swap(book: &mut [u8], sound: &Sound, other: usize, slot: usize, frame: &[u8]) -> Answer {
+    let (at, next) = held(book, other)?;
+    let end = sound.end - (next - at) + frame.len();
+    if end > book.len() {
+        return Err((8, 0));
+    }
+    book.copy_within(next..sound.end, at + frame.len());
+    book[at..at + frame.len()].copy_from_slice(frame);
+    if end < sound.end {
+        book[end..sound.end].fill(0);
+    }
+    for (offset, slot) in &sound.frames[..sound.count] {
+        if *offset as usize > at {
+            set_word(book, 4 + 2 * *slot as usize, *offset as usize - (next - at) + frame.len());
+        }
+    }
+    set_word(book, 4 + 2 * other, 0);
+    set_word(book, 4 + 2 * slot, at);
+    set_word(book, 2, end);
     Ok(0)
 }
 

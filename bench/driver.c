@@ -122,12 +122,12 @@ static void decoders(double *ratios) {
 
 int main(int count, char **words) {
     double ratios[REPEATS];
-    (void)words;
     for (int i = 0; i < SETS + BYTES; i++) bytes[i] = next();
-    // With any word, the playback alone.
+    make_pool();
+    // With a word, the book or the playback alone.
     if (count > 1) {
-        make_pool();
-        plays();
+        if (words[1][0] == 'b') books();
+        else plays();
         return 0;
     }
     for (u64 k = 0; k < sizeof builders / sizeof *builders; k++) {

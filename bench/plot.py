@@ -15,7 +15,7 @@ LEFT, WIDTH, RIGHT, ROW, TOP = 270, 400, 40, 13, 44
 def group(name):
     if name[0].isdigit():
         return 0
-    for i, start in ((2, "decode"), (3, "book"), (3, "empty book"), (4, "dump")):
+    for i, start in ((2, "decode"), (3, "book"), (3, "empty book"), (3, "playback"), (4, "dump")):
         if name.startswith(start):
             return i
     return 1

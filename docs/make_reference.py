@@ -52,6 +52,20 @@ def greatest(data, argument):
     return max(codes_of(data, argument)) if is_code(data, argument) else argument["range"][1]
 
 
+# ---- the two forms of a setting
+
+def other_form(data, kind):
+    """The kind that is the same setting in another length; None where there is none."""
+    other = {k: pair[1 - i] for pair in data["forms"] for i, k in enumerate(pair)}
+    return data["kinds"][other[kind["kind"]] - 1] if kind["kind"] in other else None
+
+
+def fullest(data):
+    """The kinds of settings that fill a book most: of two forms the longer one."""
+    shorter = [short for short, _ in data["forms"]]
+    return [k for k in data["kinds"] if k["slot"] is not None and k["kind"] not in shorter]
+
+
 # ---- what the sizes come from
 
 def line_length(data, kind, index_digits=20):
@@ -61,9 +75,9 @@ def line_length(data, kind, index_digits=20):
 
 
 def sizes(data):
-    """Every size, computed from the rows, the refusals and the rules of texts."""
+    """Every size, computed from the rows, the pairs, the refusals and the rules of texts."""
     settings = [k for k in data["kinds"] if k["slot"] is not None]
-    frames = sum(k["length"] for k in settings)
+    frames = sum(k["length"] for k in fullest(data))
     head = 4 + 2 * len(settings)
     refused = max(len("0 %d 0" % r["number"]) for r in data["refusals"])
     cut = 20 + 1 + refused + 1
@@ -77,7 +91,7 @@ def sizes(data):
         "HB_BOOK_MIN": head,
         "HB_BOOK_MAX": 4096,
         "HB_BOOK_ALL": head + frames,
-        "HB_REPLAY_MAX": frames + len(settings),
+        "HB_REPLAY_MAX": frames + len(fullest(data)),
         "HB_LEVEL_TEXT_MAX": max(len("-%d.%d" % (n // 2, 5 * (n % 2))) for n in range(65536)),
         "HB_SNR_TEXT_MAX": max(len("-%d.%02d" % (n // 4, 25 * (n % 4))) for n in range(129)),
         "HB_DUMP_LINE_MAX": max([cut] + [line_length(data, k) for k in data["kinds"]]),
@@ -223,6 +237,12 @@ def md_calls(data):
                  [[what, "`%s`" % name, ", ".join(map(str, numbers)) or "none"] for name, what, numbers in data["calls"]])
 
 
+def md_forms(data):
+    pairs = [[data["kinds"][kind - 1] for kind in pair] for pair in data["forms"]]
+    return table(["shorter form", "its length", "longer form", "its length"],
+                 [[cell for k in pair for cell in ("kind %d, `%s`" % (k["kind"], k["builder"]), str(k["length"]))] for pair in pairs])
+
+
 def md_sizes(data):
     return table(["name for C", "size", "what it is"], [["`%s`" % name, comma(value), text] for name, value, text in data["sizes"]])
 
@@ -259,8 +279,10 @@ def c_kinds(data):
     out = []
     for k in data["kinds"]:
         kept = "An action. " if k["slot"] is None else ""
+        other = other_form(data, k)
+        form = " One setting with %s: a book holds one of the two." % c_kind(other) if other else ""
         none = "" if k["arguments"] else " No arguments."
-        text = comment(kept + k["says"] + none) + c_arguments(data, k["arguments"])
+        text = comment(kept + k["says"] + form + none) + c_arguments(data, k["arguments"])
         if k["arguments"]:
             text = [line.replace(" */", "") for line in text]
             text[-1] += " */"
@@ -320,7 +342,7 @@ def c_named(data):
 MADE = {
     "docs/REFERENCE.md": {"commands": md_commands, "arguments": md_arguments, "enums": md_enums, "status": md_status,
                           "interrupts": md_interrupts, "responses": md_responses, "LoraBw": md_lora_bw, "RxBw": md_rx_bw,
-                          "refusals": md_refusals, "order": md_order, "calls": md_calls, "sizes": md_sizes},
+                          "refusals": md_refusals, "order": md_order, "calls": md_calls, "forms": md_forms, "sizes": md_sizes},
     "include/hoardbutton.h": {"sizes": c_sizes, "refusals": c_refusals, "kinds": c_kinds, "codes": c_codes, "status": c_status,
                               "interrupts": c_interrupts},
     "tests/link/named.h": {None: c_named},

@@ -6,9 +6,9 @@
  * hb_play is the one exception: on 15 it gives what the records before the fault have made. A caller owes two things: a pointer has as many
  * elements as its length says (it may be null where that is 0), and buffers lent to one call do not overlap.
  *
- * A kind is a command's number, HB_SET_RF_FREQUENCY and so on. A frame is the bytes of one command. Settings are the kinds that a book
- * keeps; the others are actions. docs/REFERENCE.md has the bytes of all. The constants here come from docs/commands.json by
- * docs/make_reference.py. */
+ * A kind is a command's number, HB_SET_RF_FREQUENCY and so on. A frame is the bytes of one command. A kind is a setting's, which a book
+ * keeps, or an action; three settings have two kinds, a shorter and a longer form. docs/REFERENCE.md has the bytes of all. The constants
+ * here come from docs/commands.json by docs/make_reference.py. */
 #ifndef HOARDBUTTON_H
 #define HOARDBUTTON_H
 
@@ -24,13 +24,13 @@ extern "C" {
 
 /* from commands.json: sizes */
 #define HB_KINDS 39 /* kinds of commands; a kind is a number from 1 */
-#define HB_SETTINGS 29 /* of them settings, which a book keeps */
+#define HB_SETTINGS 29 /* of them kinds of settings, each with a slot in a book */
 #define HB_FRAME_MAX 12 /* bytes of the longest frame (kind 6) */
 #define HB_ARGS_MAX 9 /* arguments of the kinds that have most (6 and 17) */
 #define HB_BOOK_MIN 62 /* bytes of the smallest book, which holds no frame */
 #define HB_BOOK_MAX 4096 /* bytes of the largest buffer that a book may have */
-#define HB_BOOK_ALL 246 /* bytes of a book that holds all 29 settings at once */
-#define HB_REPLAY_MAX 213 /* bytes of the replay of all 29 settings */
+#define HB_BOOK_ALL 231 /* bytes of a book that holds all 26 settings at once, of two forms the longer one */
+#define HB_REPLAY_MAX 195 /* bytes of the replay of such a book; none is longer */
 #define HB_LEVEL_TEXT_MAX 8 /* bytes of the longest text of a level (-32767.5) */
 #define HB_SNR_TEXT_MAX 6 /* bytes of the longest text of a ratio (-32.00) */
 #define HB_DUMP_LINE_MAX 64 /* bytes of the longest line of a dump with its newline (kind 6, an index of 20 digits) */
@@ -58,6 +58,7 @@ extern "C" {
 #define HB_REFUSED_NOT_A_KIND 13 /* there is no such kind, or the book was given an action */
 #define HB_REFUSED_REEL_CUT 14 /* the reel breaks off within a frame, or the place lies behind it */
 #define HB_REFUSED_TRACE_FAULT 15 /* a trace's header or one of its records breaks off, its first record would stand within the header, or a direction is neither 0 nor 1; place: the byte of the trace where the record starts, from 0; 0 for the header */
+#define HB_REFUSED_BOTH_FORMS 16 /* the book holds a setting in both its forms */
 /* end: refusals */
 
 /* ---- kinds: each with its arguments in their order. A code is one of the constants named, a yes is 1 and a no is 0; hb_plain takes any
@@ -90,14 +91,15 @@ extern "C" {
  *   syncword  0 to 255  0x12 in private networks, which is also the radio's default; 0x34 in public ones */
 #define HB_SET_LORA_SYNCWORD 4
 
-/* Configures the phase modulation of the LoRa preamble.
+/* Configures the phase modulation of the LoRa preamble. One setting with HB_CONFIG_LORA_PREAMBLE_MODULATION_ADV: a book holds one of the
+ * two.
  *   pmod_en         1 or 0         whether the preamble is phase modulated
  *   dram_ret        0 to 7         what memory the radio keeps while it sleeps
  *   wakeup_time     0 to 65535     time to wake up
  *   min_sleep_time  0 to 16777215  least time to sleep */
 #define HB_CONFIG_LORA_PREAMBLE_MODULATION 5
 
-/* Kind 5 with its detection tuned.
+/* Kind 5 with its detection tuned. One setting with HB_CONFIG_LORA_PREAMBLE_MODULATION: a book holds one of the two.
  *   pmod_en          1 or 0         whether the preamble is phase modulated
  *   dram_ret         0 to 7         what memory the radio keeps while it sleeps
  *   wakeup_time      0 to 65535     time to wake up
@@ -211,23 +213,24 @@ extern "C" {
  *   rf_freq  0 to 4294967295  the frequency, in Hz */
 #define HB_SET_RF_FREQUENCY 24
 
-/* Chooses the receive path.
+/* Chooses the receive path. One setting with HB_SET_RX_PATH_ADV: a book holds one of the two.
  *   rx_path  HB_RX_PATH_..  input of the receiver */
 #define HB_SET_RX_PATH 25
 
-/* Chooses the receive path and its boost. A new boost makes the radio calibrate its ADC offset again.
+/* Chooses the receive path and its boost. A new boost makes the radio calibrate its ADC offset again. One setting with HB_SET_RX_PATH: a
+ * book holds one of the two.
  *   rx_path   HB_RX_PATH_..   input of the receiver
  *   rx_boost  HB_RX_BOOST_..  boost of the receiver */
 #define HB_SET_RX_PATH_ADV 26
 
-/* Chooses and configures a power amplifier.
+/* Chooses and configures a power amplifier. One setting with HB_SET_PA_CONFIG_ADV: a book holds one of the two.
  *   pa_sel            HB_PA_SEL_..      which amplifier
  *   pa_lf_mode        HB_PA_LF_MODE_..  mode of the low frequency amplifier; 0 where it is not used
  *   pa_lf_duty_cycle  0 to 7            duty cycle of the low frequency amplifier; its top bit is that of pa_sel
  *   pa_lf_slices      0 to 15           slices of the low frequency amplifier */
 #define HB_SET_PA_CONFIG 27
 
-/* Kind 27, with the high frequency amplifier.
+/* Kind 27, with the high frequency amplifier. One setting with HB_SET_PA_CONFIG: a book holds one of the two.
  *   pa_sel            HB_PA_SEL_..      which amplifier
  *   pa_lf_mode        HB_PA_LF_MODE_..  mode of the low frequency amplifier; 0 where it is not used
  *   pa_lf_duty_cycle  0 to 7            duty cycle of the low frequency amplifier; its top bit is that of pa_sel
@@ -598,7 +601,8 @@ typedef struct hb_decoded {
 hb_decoded hb_decode(const uint8_t *frame, size_t len);
 
 /* ---- the settings book: the last frame of each setting, in order of first entry, in a buffer of HB_BOOK_MIN to HB_BOOK_MAX bytes. One of
- * HB_BOOK_ALL bytes never lacks room. */
+ * HB_BOOK_ALL bytes never lacks room. Where two kinds are one setting in two forms, as is said at their constants, a book holds one of the two;
+ * bytes from elsewhere that hold both are refused by 16, by every call but hb_book_make. */
 
 /* A call's answer: value is the bytes written where a call writes, and else 0. */
 typedef struct hb_answer {
@@ -609,19 +613,21 @@ typedef struct hb_answer {
 /* Makes an empty book, whatever bytes stood there. Refuses 11. */
 hb_answer hb_book_make(uint8_t *book, size_t len);
 
-/* Puts a setting's frame in the place of the one held, or behind all others. Refuses 11, 10, 1, 2, 3, 4, 5, 13, 8. */
+/* Puts a setting's frame in the place of the one held, be that of this form or of the other, or behind all others. Room is judged on the
+ * frames after the put: a shorter form always fits where the longer one stood. Refuses 11, 10, 16, 1, 2, 3, 4, 5, 13, 8. */
 hb_answer hb_book_put(uint8_t *book, size_t len, const uint8_t *frame, size_t frame_len);
 
-/* Takes a kind's frame out; its room is free. Refuses 11, 10, 13, 9. */
+/* Takes a kind's frame out; its room is free. 9 also where only the other form is held. Refuses 11, 10, 16, 13, 9. */
 hb_answer hb_book_remove(uint8_t *book, size_t len, uint64_t kind);
 
-/* Writes a kind's frame, at most HB_FRAME_MAX bytes, to the front of out, and keeps the rest of it. Refuses 11, 10, 13, 9, 12. */
+/* Writes a kind's frame, at most HB_FRAME_MAX bytes, to the front of out, and keeps the rest of it. 9 also where only the other form is held.
+ * Refuses 11, 10, 16, 13, 9, 12. */
 hb_answer hb_book_ask(const uint8_t *book, size_t len, uint64_t kind, uint8_t *out, size_t out_len);
 
-/* Takes every frame out. Refuses 11, 10. */
+/* Takes every frame out. Refuses 11, 10, 16. */
 hb_answer hb_book_clear(uint8_t *book, size_t len);
 
-/* Writes all frames, at most HB_REPLAY_MAX bytes, to the front of out as a reel, and keeps the rest of it. Refuses 11, 10, 12. */
+/* Writes all frames, at most HB_REPLAY_MAX bytes, to the front of out as a reel, and keeps the rest of it. Refuses 11, 10, 16, 12. */
 hb_answer hb_book_replay(const uint8_t *book, size_t len, uint8_t *out, size_t out_len);
 
 /* ---- what the radio sends */

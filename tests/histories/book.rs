@@ -28,6 +28,15 @@ pub const ACTIONS: [u64; 10] = [8, 9, 10, 22, 23, 29, 30, 32, 36, 37];
 pub const SETTINGS: [u64; 29] =
     [1, 2, 3, 4, 5, 6, 7, 11, 12, 13, 14, 15, 16, 17, 18, 19, 20, 21, 24, 25, 26, 27, 28, 31, 33, 34, 35, 38, 39];
 
+// The kinds that are one setting in two lengths, the shorter form first.
+pub const FORMS: [(u64, u64); 3] = [(5, 6), (25, 26), (27, 28)];
+
+// The form of its setting that a kind is not.
+pub fn other_form(kind: u64) -> Option<u64> {
+    let (short, long) = *FORMS.iter().find(|(short, long)| kind == *short || kind == *long)?;
+    Some(if kind == short { long } else { short })
+}
+
 pub fn slot(kind: u64) -> Option<usize> {
     SETTINGS.iter().position(|k| *k == kind)
 }
@@ -83,6 +92,23 @@ fn well_formed(bytes: &[u8]) -> Option<Vec<Frame>> {
     if at == end { Some(frames) } else { None }
 }
 
+fn holds_both_forms(frames: &[Frame]) -> bool {
+    let held = |kind: u64| frames.iter().any(|f| f.kind == kind);
+    FORMS.iter().any(|(short, long)| held(*short) && held(*long))
+}
+
+// What is wrong with a buffer is told in this order: its length, then its bytes, then a setting that they hold in both forms.
+fn judged(bytes: &[u8]) -> Result<Vec<Frame>, u8> {
+    if !(62..=4096).contains(&bytes.len()) {
+        return Err(11);
+    }
+    match well_formed(bytes) {
+        None => Err(10),
+        Some(frames) if holds_both_forms(&frames) => Err(16),
+        Some(frames) => Ok(frames),
+    }
+}
+
 pub struct Book {
     pub bytes: Vec<u8>,
     // What the bytes hold; the refusal of a buffer that is no book.
@@ -100,9 +126,8 @@ impl Book {
         Book { bytes: vec![], content: Err(11), output: vec![] }
     }
 
-    // "buffer not 62 to 4,096 bytes" comes before "book bytes not well formed".
     fn judge(&mut self) {
-        self.content = if !(62..=4096).contains(&self.bytes.len()) { Err(11) } else { well_formed(&self.bytes).ok_or(10) };
+        self.content = judged(&self.bytes);
     }
 
     fn holds(&mut self, frames: Vec<Frame>) -> Answer {
@@ -164,7 +189,7 @@ impl Book {
         }
     }
 
-    // "put decodes before all else"; 13 for an action; "A kind already held is overwritten in its place."
+    // "put decodes before all else"; 13 for an action; a setting that is held, in this form or the other, keeps its place.
     fn put(&mut self, bytes: &[u8], mut frames: Vec<Frame>) -> Answer {
         let kind = match decode(bytes) {
             Decoded::Refused(refusal, place) => return Answer { refusal, place, written: 0 },
@@ -174,11 +199,12 @@ impl Book {
             return refused(13);
         }
         let frame = Frame { kind, bytes: bytes.to_vec() };
-        match frames.iter_mut().find(|f| f.kind == kind) {
+        let other = other_form(kind);
+        match frames.iter_mut().find(|f| f.kind == kind || Some(f.kind) == other) {
             Some(place) => *place = frame,
             None => frames.push(frame),
         }
-        // "frames plus 62 would exceed the buffer"
+        // "frames plus 62 would exceed the buffer": those of the list as it is after the put
         if 62 + frames.iter().map(|f| f.bytes.len()).sum::<usize>() > self.bytes.len() {
             return refused(8);
         }

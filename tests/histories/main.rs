@@ -12,9 +12,11 @@ mod called;
 mod compare;
 mod enums;
 mod file;
+mod fixed;
 mod frames;
 mod make;
 mod record;
+mod seen;
 
 #[path = "../oracle/model.rs"]
 mod model;
@@ -27,7 +29,7 @@ fn run(words: &[&str]) -> Result<bool> {
     let file = |name: &str| Ok::<_, std::io::Error>(BufWriter::with_capacity(1 << 20, File::create(name)?));
     match words {
         ["wide", count, records] => histories(count.parse().expect("a number"), 2021, Size::Wide, file(records)?)?,
-        ["sample", records] => histories(300, 12, Size::Sample, file(records)?)?,
+        ["sample", records] => histories(300, 13, Size::Sample, file(records)?)?,
         ["answers", records] => compare::answers(records, BufWriter::new(stdout()))?,
         ["compare", records] => return compare::compare(records, stdin()),
         _ => {

@@ -1,6 +1,7 @@
 // Random histories. They are the same on every run and machine: the random numbers have a fixed seed.
-use crate::book::{image, length, Book, Frame, ACTIONS, SETTINGS};
+use crate::book::{image, length, other_form, Book, Frame, ACTIONS, FORMS, SETTINGS};
 use crate::file::Records;
+use crate::fixed;
 use crate::frames::{damaged, good, Random};
 use crate::model::commands;
 use crate::record::Record;
@@ -66,10 +67,10 @@ pub enum Size {
     Sample,
 }
 
-struct History<'a, W: Write> {
-    random: &'a mut Random,
+pub struct History<'a, W: Write> {
+    pub random: &'a mut Random,
     to: &'a mut Records<W>,
-    book: Book,
+    pub book: Book,
     // The kinds that puts choose from: few, so that they meet again, or all.
     kinds: Vec<u64>,
     // So many of a hundred calls on a sound book come with damage to it.
@@ -77,41 +78,52 @@ struct History<'a, W: Write> {
 }
 
 impl<W: Write> History<'_, W> {
-    fn record(&mut self, record: Record) -> Result<()> {
+    pub fn record(&mut self, record: Record) -> Result<()> {
         self.book.carry_out(&record);
         self.to.write(&record)
     }
 
-    fn frames(&self) -> &[Frame] {
+    pub fn frames(&self) -> &[Frame] {
         self.book.content.as_deref().unwrap_or(&[])
     }
 
+    // Of each setting that is held in one of two forms, the other.
+    fn unheld_forms(&self) -> Vec<u64> {
+        self.frames().iter().filter_map(|f| other_form(f.kind)).collect()
+    }
+
     // Replaces bytes of the buffer, as many as a record takes at a time.
-    fn poke(&mut self, at: usize, data: &[u8]) -> Result<()> {
+    pub fn poke(&mut self, at: usize, data: &[u8]) -> Result<()> {
         for (i, part) in data.chunks(255).enumerate() {
             self.record(Record::Poke { at: at + 255 * i, data: part.to_vec() })?;
         }
         Ok(())
     }
 
-    // A sound book that was never put together by calls, in any order, as far as there is room.
-    fn hand_in(&mut self) -> Result<()> {
+    // A book that was never put together by calls, in any order, as far as there is room: with one form of each setting, or with both of some.
+    fn hand_in(&mut self, both: bool) -> Result<()> {
         let size = self.book.bytes.len();
         let mut kinds = SETTINGS.to_vec();
         self.random.shuffle(&mut kinds);
         kinds.truncate(self.random.below(30));
+        if both {
+            let (short, long) = self.random.one_of(&FORMS);
+            kinds.splice(0..0, [short, long]);
+        }
         let mut left = size - 62;
-        let mut frames = vec![];
+        let mut frames: Vec<Frame> = vec![];
         for kind in kinds {
-            if length(kind) <= left {
+            let is_there = |f: &Frame| f.kind == kind || !both && Some(f.kind) == other_form(kind);
+            if length(kind) <= left && !frames.iter().any(is_there) {
                 left -= length(kind);
                 frames.push(Frame { kind, bytes: good(self.random, kind) });
             }
         }
+        self.random.shuffle(&mut frames);
         self.poke(0, &image(&frames, size))
     }
 
-    // Puts a frame of every setting, in any order.
+    // Puts a frame of every kind, in any order.
     fn fill(&mut self) -> Result<()> {
         self.record(Record::Make)?;
         let mut kinds = SETTINGS.to_vec();
@@ -121,6 +133,32 @@ impl<W: Write> History<'_, W> {
             self.record(Record::Put { frame })?;
         }
         Ok(())
+    }
+
+    // The other form stored beside one that is held, with a fault more or none, some calls on that book, and then the old bytes or neither.
+    fn double(&mut self) -> Result<()> {
+        let before = self.book.bytes.clone();
+        let mut frames = self.frames().to_vec();
+        let (short, long) = self.random.one_of(&FORMS);
+        for kind in [short, long] {
+            if !frames.iter().any(|f| f.kind == kind) {
+                let frame = Frame { kind, bytes: good(self.random, kind) };
+                frames.insert(self.random.below(frames.len() + 1), frame);
+            }
+        }
+        let bytes = image(&frames, before.len());
+        if bytes.len() > before.len() {
+            return self.call();
+        }
+        self.poke(0, &bytes)?;
+        if self.random.percent(40) {
+            let (at, data) = damage(self.random, &bytes, &frames);
+            self.poke(at, &data[..data.len().min(bytes.len() - at)])?;
+        }
+        for _ in 0..self.random.within(1, 3) {
+            self.call()?;
+        }
+        if self.random.percent(60) { self.poke(0, &before) } else { Ok(()) }
     }
 
     // Damage, some calls on the damaged book, and then the old bytes, a new book, or neither.
@@ -149,6 +187,7 @@ impl<W: Write> History<'_, W> {
             1 => self.random.one_of(&[0, 40, 255, 300, u64::MAX, 1 << 63, 256 + any, (1 << 32) + any, (1 << 56) + any]),
             2..=5 => self.random.one_of(&SETTINGS),
             6..=8 => any,
+            9 | 10 if !self.unheld_forms().is_empty() => self.form(),
             _ if held > 0 => {
                 let i = self.random.below(held);
                 self.frames()[i].kind
@@ -168,11 +207,25 @@ impl<W: Write> History<'_, W> {
         }
     }
 
+    // A kind that is one of two forms; more often than not the form that is not held of a setting that is.
+    fn form(&mut self) -> u64 {
+        let unheld = self.unheld_forms();
+        if !unheld.is_empty() && self.random.percent(70) {
+            return self.random.one_of(&unheld);
+        }
+        let (short, long) = self.random.one_of(&FORMS);
+        self.random.one_of(&[short, long])
+    }
+
     fn put(&mut self) -> Result<()> {
-        let frame = match self.random.below(12) {
-            0 | 1 => damaged(self.random),
-            2 if self.random.percent(50) => {
+        let frame = match self.random.below(24) {
+            0..=3 => damaged(self.random),
+            4 => {
                 let kind = self.random.one_of(&ACTIONS);
+                good(self.random, kind)
+            }
+            5..=10 => {
+                let kind = self.form();
                 good(self.random, kind)
             }
             _ => {
@@ -214,18 +267,21 @@ impl<W: Write> History<'_, W> {
         let size = self.book.bytes.len();
         match self.random.below(20) {
             0 => {}
-            1 | 2 if (62..=4096).contains(&size) => self.hand_in()?,
-            3 if size > 0 => {
+            1..=3 if (62..=4096).contains(&size) => {
+                let both = self.random.percent(40);
+                self.hand_in(both)?
+            }
+            4 if size > 0 => {
                 let n = self.random.below(size.min(80));
                 let bytes = self.random.bytes(n);
                 self.poke(0, &bytes)?
             }
-            4..=8 if (244..=300).contains(&size) => self.fill()?,
+            5..=9 if (229..=260).contains(&size) => self.fill()?,
             _ => self.record(Record::Make)?,
         }
         for _ in 0..calls {
             if self.sound() && self.random.percent(self.often) {
-                self.damage()?;
+                if self.random.percent(30) { self.double()? } else { self.damage()? }
             } else if !self.sound() && self.random.percent(20) {
                 self.record(Record::Make)?;
             } else {
@@ -241,40 +297,49 @@ fn extent(random: &mut Random, size: Size) -> (usize, usize) {
     if size == Size::Sample {
         return match random.below(100) {
             0 => (random.one_of(&[4095, 4096, 4097]), 2),
-            1..=3 => (random.one_of(&[245, 246, 247]), 4),
-            4..=9 => (random.one_of(&[0, 1, 3, 60, 61]), 20),
+            1 => (random.one_of(&[230, 231, 232]), 4),
+            2..=9 => (random.one_of(&[0, 1, 3, 60, 61]), 20),
             _ => (random.within(62, 88), 12),
         };
     }
     match random.below(1000) {
-        0..=4 => (random.within(301, 4096), 20),
+        0..=4 => (random.within(261, 4096), 20),
         5..=9 => (random.one_of(&[4095, 4096]), 20),
         10..=14 => (random.one_of(&[4097, 4098, 5000]), 6),
         15..=34 => (random.below(62), 10),
         35..=44 => (61, 10),
         45..=244 => (random.within(62, 80), 60),
         245..=644 => (random.within(81, 160), 60),
-        645..=944 => (random.within(161, 300), 60),
-        _ => (random.one_of(&[244, 245, 246, 247]), 60),
+        645..=944 => (random.within(161, 260), 60),
+        _ => (random.one_of(&[229, 230, 231, 232]), 60),
     }
 }
 
 pub fn histories<W: Write>(count: usize, seed: u64, size: Size, to: W) -> Result<()> {
     let mut random = Random(seed);
     let mut to = Records::new(to);
-    for _ in 0..count {
-        let (length, most) = extent(&mut random, size);
-        let mut kinds = SETTINGS.to_vec();
-        random.shuffle(&mut kinds);
-        if random.percent(50) {
-            kinds.truncate(if size == Size::Sample { 2 } else { random.one_of(&[3, 5, 8]) });
-        }
-        let first = random.byte();
-        let calls = random.within(1, most);
-        let often = random.one_of(if size == Size::Sample { &[0, 15] } else { &[0, 0, 3, 12] });
-        let mut history = History { random: &mut random, to: &mut to, book: Book::new(), kinds, often };
-        history.record(Record::Lend { length, first })?;
-        history.run(calls)?;
+    let first: Vec<fixed::Course> = fixed::courses(&mut random, size).into_iter().take(count).collect();
+    for course in &first {
+        let mut history = History { random: &mut random, to: &mut to, book: Book::new(), kinds: vec![], often: 0 };
+        course.run(&mut history)?;
+    }
+    for _ in first.len()..count {
+        any(&mut random, size, &mut to)?;
     }
     to.flush()
+}
+
+fn any<W: Write>(random: &mut Random, size: Size, to: &mut Records<W>) -> Result<()> {
+    let (length, most) = extent(random, size);
+    let mut kinds = SETTINGS.to_vec();
+    random.shuffle(&mut kinds);
+    if random.percent(50) {
+        kinds.truncate(if size == Size::Sample { 2 } else { random.one_of(&[3, 5, 8]) });
+    }
+    let first = random.byte();
+    let calls = random.within(1, most);
+    let often = random.one_of(if size == Size::Sample { &[0, 15] } else { &[0, 0, 3, 12] });
+    let mut history = History { random, to, book: Book::new(), kinds, often };
+    history.record(Record::Lend { length, first })?;
+    history.run(calls)
 }

@@ -9,7 +9,19 @@ typedef struct {
 
 static held list[30];
 static size_t count, size;
-static uint8_t book[4097];
+static uint8_t book[4097], reel[HB_REPLAY_MAX];
+
+/* The kinds that are one setting in two lengths, the shorter form first. */
+enum { PAIRS = 3 };
+static const uint8_t forms[PAIRS][2] = {{5, 6}, {25, 26}, {27, 28}};
+
+/* The form of its setting that a kind is not; 0 where there is one form. */
+static uint64_t other_form(uint64_t kind) {
+    for (size_t i = 0; i < PAIRS; i++)
+        for (size_t j = 0; j < 2; j++)
+            if (forms[i][j] == kind) return forms[i][1 - j];
+    return 0;
+}
 
 /* A setting's slot; -1 for an action and for what is no kind. */
 static int slot(uint64_t kind) {
@@ -34,14 +46,21 @@ static size_t end_of(void) {
     return end;
 }
 
-static void is_the_list(void) {
-    uint8_t wanted[4096] = {1, count, end_of() >> 8, end_of()};
+/* The bytes that the list has in a buffer of that size. */
+static void written(uint8_t *to) {
+    const uint8_t head[] = {1, count, end_of() >> 8, end_of()};
     size_t at = 62;
+    memcpy(memset(to, 0, size), head, sizeof head);
     for (size_t i = 0; i < count; at += list[i++].len) {
-        wanted[4 + 2 * slot(list[i].kind)] = at >> 8;
-        wanted[5 + 2 * slot(list[i].kind)] = at;
-        memcpy(wanted + at, list[i].bytes, list[i].len);
+        to[4 + 2 * slot(list[i].kind)] = at >> 8;
+        to[5 + 2 * slot(list[i].kind)] = at;
+        memcpy(to + at, list[i].bytes, list[i].len);
     }
+}
+
+static void is_the_list(void) {
+    uint8_t wanted[4096];
+    written(wanted);
     same_bytes(book, wanted, size, size);
 }
 
@@ -81,12 +100,19 @@ static void make(size_t n) {
     is_the_list();
 }
 
-static void put(uint64_t kind, const char *frame) {
+static held frame_of(uint64_t kind, const char *text) {
     held h = {kind, 0, {0}};
-    size_t at = found(kind);
-    h.len = hex(frame, h.bytes);
+    h.len = hex(text, h.bytes);
+    return h;
+}
+
+/* A setting that is held, in this form or in the other, keeps its place. */
+static void put(uint64_t kind, const char *frame) {
+    held h = frame_of(kind, frame);
+    size_t at = found(kind) < count ? found(kind) : found(other_form(kind));
+    size_t end = end_of() - (at < count ? list[at].len : 0) + h.len;
     trying("hb_book_put", frame, size);
-    uint32_t refusal = slot(kind) < 0 ? 13 : at == count && end_of() + h.len > size ? 8 : 0;
+    uint32_t refusal = slot(kind) < 0 ? 13 : end > size ? 8 : 0;
     same_answer(change('p', 0, h.bytes, h.len), refusal, 0, 0);
     if (!refusal) list[at] = h;
     if (!refusal && at == count) count++;
@@ -112,7 +138,7 @@ static void ask(uint64_t kind) {
 
 /* The replay is the list as a reel: its bytes, and what hb_reel_step, hb_decode and hb_dump read in it. */
 static void replay(void) {
-    uint8_t reel[400], *text = lend(4096);
+    uint8_t *text = lend(4096);
     size_t len = 0, lines = 0;
     uint64_t at = 0;
     for (size_t i = 0; i < count; len += list[i++].len + 1) {
@@ -132,10 +158,16 @@ static void replay(void) {
     lent--;
 }
 
+/* Any kind; every third time one of two forms. */
+static const row *any_row(void) {
+    uint64_t way = any(), which = way / 3;
+    return &rows[way % 3 ? which % KINDS : forms[which % PAIRS][which / PAIRS % 2] - 1u];
+}
+
 static void history(size_t n) {
     make(n);
     for (unsigned i = 0; i < 400; i++) {
-        const row *r = &rows[any() % KINDS];
+        const row *r = any_row();
         uint64_t way = any() % 64;
         if (way < 40) put(r->kind, way % 2 ? r->frame : r->other);
         else if (way < 52) take_out(r->kind);
@@ -150,7 +182,7 @@ static void history(size_t n) {
     }
 }
 
-/* The reference's example; all 29 settings take 246 bytes; a full book takes an overwrite; what is put again stands at the end. */
+/* The reference's example; a full book takes an overwrite; what is put again stands at the end. */
 static void examples(void) {
     make(62);
     replay();
@@ -161,14 +193,50 @@ static void examples(void) {
     same("byte 1", book[1], 1);
     same("bytes 2-3", book[2] << 8 | book[3], 0x41);
     same("bytes 10-11", book[10] << 8 | book[11], 0x3E);
-    make(246);
-    for (size_t i = KINDS; i-- > 0;) put(rows[i].kind, rows[i].frame);
-    same("count", book[1], 29);
+    make(HB_BOOK_ALL - 1);
+    for (size_t i = 0; i < KINDS; i++) put(rows[i].kind, rows[i].frame);
+    same("count, for there is no room for kind 39", book[1], 25);
+    make(HB_BOOK_ALL);
+    for (size_t i = 0; i < KINDS; i++) put(rows[i].kind, rows[i].frame);
+    same("count", book[1], 26);
+    same("end", book[2] << 8 | book[3], 231);
     for (size_t i = 0; i < KINDS; i++) put(rows[i].kind, rows[i].other);
     take_out(39);
     put(39, rows[38].frame);
-    same("offset of kind 39", book[60] << 8 | book[61], 236);
+    same("offset of kind 39", book[60] << 8 | book[61], 221);
     replay();
+    same("the replay's length", hb_book_replay(book, size, reel, sizeof reel).value, 195);
+}
+
+/* Each form in the place of the other, first, in the middle and last, in a buffer that the longer one fills and in one that is a byte shorter. */
+static void swaps(void) {
+    for (size_t i = 0; i < PAIRS * 3 * 2; i++) {
+        const row *shorter = &rows[forms[i / 6][0] - 1], *longer = shorter + 1, *others[] = {&rows[3], &rows[23]};
+        size_t place = i / 2 % 3, lacks = i % 2;
+        make(62 + 3 + 6 + frame_of(0, longer->frame).len - lacks);
+        for (size_t j = 0; j < 3; j++) {
+            const row *r = j == place ? shorter : others[j - (j > place)];
+            put(r->kind, r->frame);
+        }
+        put(longer->kind, longer->frame);
+        same("kind at its place", list[place].kind, lacks ? shorter->kind : longer->kind);
+        ask(shorter->kind);
+        ask(longer->kind);
+        take_out(lacks ? longer->kind : shorter->kind);
+        put(shorter->kind, shorter->other);
+        put(longer->kind, longer->other);
+        replay();
+    }
+}
+
+/* The receive path with its boost, the frequency, the path without the boost, and with it again: it is sent once, where it first stood. */
+static void technician(void) {
+    make(72);
+    put(HB_SET_RX_PATH_ADV, "02 01 01 04");
+    put(HB_SET_RF_FREQUENCY, "02 00 33 BE 27 A0");
+    put(HB_SET_RX_PATH, "02 01 01");
+    put(HB_SET_RX_PATH_ADV, "02 01 01 07");
+    reads(0, 0, reel, hex("04 02 01 01 07 06 02 00 33 BE 27 A0", reel));
 }
 
 /* Every call but make is refused, whatever else is wrong with it, and alters nothing. */
@@ -182,6 +250,30 @@ static void refuses_all(uint32_t refusal) {
     same_answer(change('c', 0, NULL, 0), refusal, 0, 0);
     same_bytes(book, before, size, size);
     for (uint64_t kind = 0; kind <= 8; kind += 4) reads(kind, refusal, NULL, 0);
+}
+
+/* A stored book with both forms, in either order, and one that has another fault too. */
+static void both_forms(void) {
+    for (size_t i = 0; i < PAIRS * 2; i++) {
+        const row *first = &rows[forms[i / 2][i % 2] - 1], *last = &rows[forms[i / 2][1 - i % 2] - 1];
+        make(100);
+        put(first->kind, first->frame);
+        put(4, "02 23 34");
+        held h = list[count++] = frame_of(last->kind, last->frame);
+        written(book);
+        trying("a book with both forms", "kind", first->kind);
+        refuses_all(16);
+        same_answer(change('p', 0, h.bytes, h.len), 16, 0, 0);
+        same_answer(change('r', last->kind, NULL, 0), 16, 0, 0);
+        is_the_list();
+        reads(last->kind, 16, NULL, 0);
+        book[0] = 2;
+        trying("a book with both forms, of another version", "kind", first->kind);
+        refuses_all(10);
+        same_answer(change('m', 0, NULL, 0), 0, 0, 0);
+        count = 0;
+        is_the_list();
+    }
 }
 
 static void sizes(void) {
@@ -247,9 +339,12 @@ static void refused(void) {
 }
 
 void test_books(void) {
-    const size_t good[] = {62, 63, 65, 100, 231, 232, 245, 246, 4095, 4096};
+    const size_t good[] = {62, 63, 65, 100, 160, 229, 230, 231, 4095, 4096};
     examples();
+    swaps();
+    technician();
     sizes();
+    both_forms();
     tampered();
     refused();
     for (size_t i = 0; i < sizeof good / sizeof *good; i++) history(good[i]);

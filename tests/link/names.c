@@ -14,7 +14,7 @@ static size_t plainest(uint64_t kind, uint64_t *args) {
 }
 
 static void kinds(void) {
-    size_t longest = 0, most = 0, frames = 0, settings = 0;
+    size_t longest = 0, most = 0, settings = 0;
     uint64_t args[HB_ARGS_MAX];
     uint8_t book[HB_BOOK_ALL];
     hb_book_make(book, sizeof book);
@@ -33,19 +33,20 @@ static void kinds(void) {
         same("refusal with an argument more", hb_checked(named_kinds[i].kind, args, n + 1).refusal, HB_REFUSED_ARGUMENT_OUTSIDE);
         if (frame.len > longest) longest = frame.len;
         if (n > most) most = n;
-        if (hb_book_put(book, sizeof book, frame.bytes, frame.len).refusal == HB_REFUSED_NOT_A_KIND) continue;
-        settings++;
-        frames += frame.len;
+        uint32_t refusal = hb_book_put(book, sizeof book, frame.bytes, frame.len).refusal;
+        if (refusal != HB_REFUSED_NOT_A_KIND) same("refusal of a setting", refusal, 0);
+        settings += refusal == 0;
     }
+    size_t frames = (book[2] << 8 | book[3]) - HB_BOOK_MIN;
     same("refusal of the kind behind the last", hb_checked(HB_KINDS + 1, NULL, 0).refusal, HB_REFUSED_NOT_A_KIND);
     same("HB_FRAME_MAX", HB_FRAME_MAX, longest);
     same("HB_FRAME_MAX in hb_frame", sizeof ((hb_frame *)0)->bytes, longest);
     same("HB_ARGS_MAX", HB_ARGS_MAX, most);
     same("HB_ARGS_MAX in hb_decoded", sizeof ((hb_decoded *)0)->args / sizeof(uint64_t), most);
     same("HB_SETTINGS", HB_SETTINGS, settings);
-    same("settings in the book", book[1], settings);
+    same("settings in the book, three of them kept in one form of two", book[1], settings - 3);
     same("HB_BOOK_ALL", HB_BOOK_ALL, HB_BOOK_MIN + frames);
-    same("HB_REPLAY_MAX", HB_REPLAY_MAX, frames + settings);
+    same("HB_REPLAY_MAX", HB_REPLAY_MAX, frames + book[1]);
 }
 
 /* Whether one of the first n codes. */
@@ -93,10 +94,11 @@ static void books(void) {
     same_answer(hb_book_replay(book, HB_BOOK_ALL, reel, HB_REPLAY_MAX), 0, 0, HB_REPLAY_MAX);
     same_answer(hb_book_replay(book, HB_BOOK_ALL, reel, HB_REPLAY_MAX - 1), HB_REFUSED_OUTPUT_SHORT, 0, 0);
     same_answer(hb_book_ask(book, HB_BOOK_ALL, HB_CONFIG_LORA_PREAMBLE_MODULATION_ADV, out, HB_FRAME_MAX), 0, 0, HB_FRAME_MAX);
-    hb_book_remove(book, HB_BOOK_ALL, HB_SET_RX_PATH);
     same_answer(hb_book_ask(book, HB_BOOK_ALL, HB_SET_RX_PATH, out, HB_FRAME_MAX), HB_REFUSED_NOT_HELD, 0, 0);
     book[0] = 2;
     same_answer(hb_book_clear(book, HB_BOOK_ALL), HB_REFUSED_NOT_WELL_FORMED, 0, 0);
+    const uint8_t both[69] = {1, 2, [3] = 69, [43] = 62, [45] = 65, [62] = 2, 1, 1, 2, 1, 1, 4};
+    same_answer(hb_book_replay(both, sizeof both, reel, HB_REPLAY_MAX), HB_REFUSED_BOTH_FORMS, 0, 0);
 }
 
 /* The longest texts. */

@@ -88,6 +88,11 @@ static const struct {
     {"00 02 00 04 00 03 02 23 34 00 03 02 01 01", 68, {.records = 2, .accepted = 2}, {"02 23 34", "02 01 01"}},
     {"00 03 00 04 00 02 02 29 00 03 02 23 34 01 0C 00 00 00 00 00 00 00 00 00 00 00 00", 62,
         {.records = 3, .skipped = 1, .refused = {[8] = 1}}, {0}},
+    /* A form takes the other's place; the longer one lacks a byte. */
+    {"00 04 00 04 00 04 02 01 01 04 00 06 02 00 33 BE 27 A0 00 03 02 01 01 00 04 02 01 01 07", 72,
+        {.records = 4, .accepted = 4}, {"02 01 01 07", "02 00 33 BE 27 A0"}},
+    {"00 03 00 04 00 03 02 01 01 00 06 02 00 33 BE 27 A0 00 04 02 01 01 07", 71,
+        {.records = 3, .accepted = 2, .refused = {[8] = 1}}, {"02 01 01", "02 00 33 BE 27 A0"}},
     /* Every other refusal; an action in no counter; a request that is cut or too long is none. */
     {"00 09 00 04 00 00 00 01 02 00 02 03 23 00 03 02 28 00 00 04 02 22 00 80 00 04 02 20 40 10 00 02 02 28 00 03 02 29 00 "
         "01 0C 00 00 00 00 00 00 00 00 00 00 00 00", 62,

@@ -252,6 +252,25 @@ fn books() {
     given_back();
 }
 
+// The receive path with its boost, the frequency, the path without the boost, and with it again; then a stored book that has it both ways.
+fn forms() {
+    let (book, reel) = (output(72), output(12));
+    same("hb_book_make", hb::book_make(book), done(0));
+    for frame in [&[2, 1, 1, 4][..], &[2, 0, 0x33, 0xBE, 0x27, 0xA0], &[2, 1, 1], &[2, 1, 1, 7]] {
+        same("hb_book_put", hb::book_put(book, frame), done(0));
+    }
+    same("hb_book_ask, hb_book_remove", (hb::book_ask(book, 25, reel), hb::book_remove(book, 25)), (refused(9), refused(9)));
+    same("hb_book_replay", (hb::book_replay(book, reel), &*reel), (done(12), &[4, 2, 1, 1, 7, 6, 2, 0, 0x33, 0xBE, 0x27, 0xA0]));
+    book.fill(0);
+    for (at, byte) in [(0, 1), (1, 2), (3, 69), (43, 62), (45, 65), (62, 2), (63, 1), (65, 2), (66, 1), (68, 7)] {
+        book[at] = byte;
+    }
+    same("hb_book_ask, hb_book_remove", (hb::book_ask(book, 25, reel), hb::book_remove(book, 26)), (refused(16), refused(16)));
+    same("hb_book_put, hb_book_clear", (hb::book_put(book, &[2]), hb::book_clear(book)), (refused(16), refused(16)));
+    same("hb_book_replay", hb::book_replay(book, reel), refused(16));
+    given_back();
+}
+
 // The bytes are 81, 82 and so on.
 fn responses() {
     let bytes: Vec<u8> = (0x81..0x91).collect();
@@ -288,6 +307,7 @@ pub extern "C" fn test_rust() {
     given_back();
     about("a call\0", 0);
     books();
+    forms();
     responses();
     commands().iter().for_each(|c| each_argument(c, |kind, args| drop(checked(kind, args))));
     for _ in 0..250 {

@@ -1,7 +1,7 @@
 // What the traces came to: each event, fault and shape has to be met.
-use crate::book::{ACTIONS, SETTINGS};
+use crate::book::{other_form, ACTIONS, FORMS, SETTINGS};
 use crate::day::{records, word, Day, Event, Fault, Latest, REQUESTS};
-use std::collections::BTreeMap;
+use std::collections::{BTreeMap, BTreeSet};
 
 #[derive(Default)]
 pub struct Seen {
@@ -10,6 +10,7 @@ pub struct Seen {
     events: BTreeMap<Event, u64>,
     faults: BTreeMap<Fault, u64>,
     shapes: BTreeMap<&'static str, u64>,
+    swaps: BTreeSet<u64>,
 }
 
 const SHAPES: [&str; 7] = [
@@ -22,6 +23,20 @@ const SHAPES: [&str; 7] = [
     "book of all settings",
 ];
 
+// The kinds that were accepted while the other form of their setting was held.
+fn swapped(day: &Day) -> BTreeSet<u64> {
+    let (mut held, mut found) = (BTreeSet::new(), BTreeSet::new());
+    for event in &day.events {
+        if let Event::Accepted(kind) = event {
+            if other_form(*kind).map_or(false, |other| held.remove(&other)) {
+                found.insert(*kind);
+            }
+            held.insert(*kind);
+        }
+    }
+    found
+}
+
 fn shapes(trace: &[u8], day: &Day) -> [bool; SHAPES.len()] {
     let (found, _) = records(trace);
     let (count, first) = if trace.len() < 4 { (0, 4) } else { (word(trace, 0), word(trace, 2)) };
@@ -33,7 +48,7 @@ fn shapes(trace: &[u8], day: &Day) -> [bool; SHAPES.len()] {
         !found.is_empty() && day.fault.is_none() && end < trace.len(),
         found.iter().any(|r| r.bytes.is_empty()),
         found.iter().any(|r| r.bytes.len() == 255),
-        day.book.content.as_ref().map_or(false, |frames| frames.len() == SETTINGS.len()),
+        day.book.content.as_ref().map_or(false, |frames| frames.len() == SETTINGS.len() - FORMS.len()),
     ]
 }
 
@@ -50,6 +65,7 @@ impl Seen {
         for (name, _) in SHAPES.iter().zip(shapes(trace, day)).filter(|(_, met)| *met) {
             *self.shapes.entry(name).or_default() += 1;
         }
+        self.swaps.extend(swapped(day));
     }
 
     // How many traces and records there were, and how many of each kind.
@@ -84,6 +100,8 @@ impl Seen {
         let events = events.filter(|event| !self.events.contains_key(event)).map(|event| format!("{:?}", event));
         let faults = faults.iter().filter(|fault| !self.faults.contains_key(fault)).map(|fault| format!("{:?}", fault));
         let shapes = SHAPES.iter().filter(|name| !self.shapes.contains_key(*name)).map(|name| name.to_string());
-        events.chain(faults).chain(shapes).collect()
+        let forms = FORMS.iter().flat_map(|(short, long)| [*short, *long]).filter(|kind| !self.swaps.contains(kind));
+        let forms = forms.map(|kind| format!("kind {} in the place of its other form", kind));
+        events.chain(faults).chain(shapes).chain(forms).collect()
     }
 }

@@ -2,22 +2,27 @@
 -- And the empty book: make and clear.
 -- Assumes nothing.
 use mathlib.Core.Path.{ap, ap₂, refl, sym, _∙_, _≡_}
+use mathlib.Core.Bool.{Bool, cond, false, not, true}
 use mathlib.Core.List.{List, [], append-nil, _++_, _∷_}
 use Prim.Native.Nat.{suc, zero, ℕ, _%_, _*_, _+_, _-_, _/_, _<_, _≤_}
 use native.Mathlib.Omega.{arith}
-use borrow.Author.Tests.{le-leb, lt-leb}
+use borrow.Author.Tests.{eq-eqb, le-leb, lt-leb, ne-eqb}
 use lib.ListN.{drop, length, length-replicate, replicate, replicate-append-replicate, set, take}
 use lib.Seq.{drop-length, paste, take-all}
 use Rattle.refusal.specs.declared.Refusal.{Refusal}
-use Rattle.refusal.specs.declared.Refusal.the-variants.{BufferSize}
+use Rattle.refusal.specs.declared.Refusal.the-variants.{BothForms, BufferSize}
 use Rattle.contents.specs.declared.Verdict.the-variants as checked
 use Rattle.book.specs.declared.Answer.{Answer}
 use Rattle.book.specs.declared.Answer.the-variants.{Done, Refused}
-use Rattle.contents.specs.Frames.{flat, place}
-use Rattle.contents.specs.Contents.{Contents, Layout, header, holds, image, judge, longest, refused, roomOf, start, verdictOf, words}
-use Rattle.contents.proofs.Judged.{Bytes, Reads, apart, judge-image, judge-reads}
+use Rattle.table.specs.Table.{settings}
+use Rattle.contents.specs.Frames.{flat, held, place}
+use Rattle.contents.specs.Contents.{Contents, Layout, header, holds, image, judge, longest, offsetAt, presentAt, refused, roomOf, start, verdictOf, words}
+use Rattle.contents.proofs.Shape.{place-ge, place-none}
+use Rattle.contents.proofs.Judged.{Bytes, Reads, apart, judge-image, judge-reads, offsets}
+use Rattle.forms.specs.Forms.{inBoth, single}
+use Rattle.forms.proofs.Forms.{OneForm, both-agree, single-forms}
 use Rattle.book.specs.Plain.{Turn, become, clearOn}
-use Rattle.book.specs.Book.{call, made, opened, verdict}
+use Rattle.book.specs.Book.{agreed, call, made, opened, verdict}
 use Rattle.book.specs.Edits.{setWord}
 
 -- an answer is not both
@@ -29,39 +34,72 @@ pub record Holds (l : Layout) (b : List ℕ) : Type 0 where
   pub reads : judge l b ≡ holds frames
   pub opens : opened l b ≡ holds frames
 
--- a book that opens reads as frames
-pub opened-holds : (l : Layout) (b : List ℕ) (n : ℕ) → Done n ≡ verdict (opened l b) → Holds l b
-unfolding opened
-opened-holds l b n h = go (judge l b) refl h
+agreed-holds : (c : Contents) (fs : List (List ℕ)) → agreed c ≡ holds fs → (c ≡ holds fs) × (single fs ≡ true)
+agreed-holds (refused x) fs h = absurd (apart (cc))
+agreed-holds (holds gs) fs h = go (single gs) refl h
   where
-    go : (r : Contents) → judge l b ≡ r → Done n ≡ verdict r → Holds l b
-    go (refused x) e z = absurd (done-refused n x z)
-    go (holds fs) e z = record { frames = fs; reads = e; opens = e }
+    go : (t : Bool) → single gs ≡ t → cond t (holds gs) (refused BothForms) ≡ holds fs → (holds gs ≡ holds fs) × (single fs ≡ true)
+    go true e z = let q : gs ≡ fs = cc in (z, ap single (sym q) ∙ e)
+    go false e z = absurd (apart (cc))
 
--- what the check of a buffer says is what a call finds
-module _ (l : Layout) (b : List ℕ) where
-  pub ready-sound : checked.WellFormed ≡ verdictOf (judge l b) → Done 0 ≡ verdict (opened l b)
-  unfolding opened
-  ready-sound e = go (judge l b) e
-    where
-      go : (r : Contents) → checked.WellFormed ≡ verdictOf r → Done 0 ≡ verdict r
-      go (refused y) z = absurd (apart (cc))
-      go (holds fs) z = refl
-
-  pub ready-refused : (x : Refusal) → checked.Refused x ≡ verdictOf (judge l b) → Refused x ≡ verdict (opened l b)
-  unfolding opened
-  ready-refused x e = go (judge l b) e
-    where
-      go : (r : Contents) → checked.Refused x ≡ verdictOf r → Refused x ≡ verdict r
-      go (refused y) z = let w : x ≡ y = cc in ap (λ (y : Refusal). Refused y) w
-      go (holds fs) z = absurd (apart (cc))
-
--- what opens reads as those frames
+-- what opens reads as those frames, and holds no setting in both its forms
 pub opened-judge : (l : Layout) (b : List ℕ) (fs : List (List ℕ)) → opened l b ≡ holds fs → judge l b ≡ holds fs
 unfolding opened
-opened-judge l b fs h = h
+opened-judge l b fs h = agreed-holds (judge l b) fs h .0
 
--- and is their image
+pub opened-forms : (l : Layout) (b : List ℕ) (fs : List (List ℕ)) → opened l b ≡ holds fs → OneForm fs
+unfolding opened
+opened-forms l b fs h = single-forms fs (agreed-holds (judge l b) fs h .1)
+
+-- a book that opens reads as frames
+pub opened-holds : (l : Layout) (b : List ℕ) (n : ℕ) → Done n ≡ verdict (opened l b) → Holds l b
+opened-holds l b n h = go (opened l b) refl h
+  where
+    go : (r : Contents) → opened l b ≡ r → Done n ≡ verdict r → Holds l b
+    go (refused x) e z = absurd (done-refused n x z)
+    go (holds fs) e z = record { frames = fs; reads = opened-judge l b fs e; opens = e }
+
+-- what the check of a buffer says is what a call finds
+pub ready-refused : (l : Layout) (b : List ℕ) (x : Refusal) → checked.Refused x ≡ verdictOf (judge l b) → Refused x ≡ verdict (opened l b)
+unfolding opened
+ready-refused l b x e = go (judge l b) e
+  where
+    go : (r : Contents) → checked.Refused x ≡ verdictOf r → Refused x ≡ verdict (agreed r)
+    go (refused y) z = let w : x ≡ y = cc in ap (λ (y : Refusal). Refused y) w
+    go (holds fs) z = absurd (apart (cc))
+
+-- the offsets of a header tell which slots are held
+pub present-held : (l : Layout) (b : List ℕ) (fs : List (List ℕ)) → judge l b ≡ holds fs → (s : ℕ) → s < l .slots → presentAt b s ≡ held s fs
+present-held l b fs h s a = go (held s fs) refl
+  where
+    o : offsetAt b s ≡ place (start (l .slots)) fs s
+    o = offsets l b fs (judge-reads l b fs h) s a
+
+    go : (t : Bool) → held s fs ≡ t → presentAt b s ≡ held s fs
+    go true q = rw (ne-eqb (offsetAt b s) 0 (λ z. absurd (omega (arith, o, place-ge (start (l .slots)) fs s q))), q)
+    go false q = rw (eq-eqb (offsetAt b s) 0 (o ∙ place-none (start (l .slots)) fs s q), q)
+
+-- and so whether a setting is held in both its forms
+module _ (l : Layout) (big : settings ≤ l .slots) (b : List ℕ) (ok : checked.WellFormed ≡ verdictOf (judge l b)) where
+  sorted : (t : Bool) → inBoth (presentAt b) ≡ t → verdict (opened l b) ≡ cond t (Refused BothForms) (Done 0)
+  unfolding opened single
+  sorted t e = go (judge l b) refl ok
+    where
+      go : (r : Contents) → judge l b ≡ r → checked.WellFormed ≡ verdictOf r → verdict (agreed (judge l b)) ≡ cond t (Refused BothForms) (Done 0)
+      go (refused y) w z = absurd (apart (cc))
+      go (holds fs) w z = rw (w, ← both-agree (presentAt b) (λ s. held s fs) (λ s a. present-held l b fs w s (omega arith)), e) (by t)
+        where
+          by : (t : Bool) → verdict (cond (not t) (holds fs) (refused BothForms)) ≡ cond t (Refused BothForms) (Done 0)
+          by true = refl
+          by false = refl
+
+  pub ready-both : inBoth (presentAt b) ≡ true → Refused BothForms ≡ verdict (opened l b)
+  ready-both e = sym (sorted true e)
+
+  pub ready-one : inBoth (presentAt b) ≡ false → Done 0 ≡ verdict (opened l b)
+  ready-one e = sym (sorted false e)
+
+-- what opens is the image of its frames
 pub opened-bytes : (l : Layout) (b : List ℕ) (fs : List (List ℕ)) → Bytes b → opened l b ≡ holds fs → b ≡ image l (length b) fs
 opened-bytes l b fs B h = judge-image l b fs B (opened-judge l b fs h)
 

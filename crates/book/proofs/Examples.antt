@@ -1,5 +1,6 @@
 -- A frame of three bytes put into a made book: of 62 bytes, which refuses it for room, and of 65, which takes it, with the bytes that it then
--- has (REFERENCE, "Book"): one list of runs with their answers, and one claim.
+-- has (REFERENCE, "Book"). And the two forms of the receive path (REFERENCE, "Short and long forms"): put one after the other, and both in a
+-- stored book.
 -- Assumes nothing.
 use mathlib.Core.Path.{refl, _≡_}
 use mathlib.Core.List.{List, [], _++_, _∷_}
@@ -14,12 +15,15 @@ use Rattle.refusal.specs.Numbers.{numberOf}
 use Rattle.decoder.specs.Decoding.{answered, decode, judged, known, lacking, sought, stray}
 use Rattle.book.specs.declared.Answer.{Answer}
 use Rattle.book.specs.declared.Answer.the-variants.{Done, Refused}
-use Rattle.settings.specs.Settings.{slotFor, slotOf}
+use Rattle.reel.specs.Reel.{reelOf}
+use Rattle.settings.specs.Settings.{lengths, sizeOf, slotFor, slotOf}
 use Rattle.contents.specs.Frames.{flat, held, place}
-use Rattle.contents.specs.Contents.{allZero, framesFrom, header, image, judge, offsetAt, presentFrom, wordAt, words}
-use Rattle.book.specs.Plain.{placed, putOn, seat}
+use Rattle.contents.specs.Contents.{allZero, framesFrom, header, image, judge, lengthAt, lengthBy, offsetAt, presentFrom}
+use Rattle.contents.specs.Contents.{roomOf, slotFrom, wordAt, words}
+use Rattle.forms.specs.Forms.{bothIn, inBoth, other, otherIn, single}
+use Rattle.book.specs.Plain.{askOn, frameOf, placed, putOn, removeOn, replayOn, seat, swapIn, without}
 use Rattle.book.specs.Book.{Outcome, call, made, opened, ours}
-use Rattle.book.specs.History.{Put, after}
+use Rattle.book.specs.History.{Ask, Call, Put, Remove, Replay, after, onList, turn}
 
 -- syncword 0x34
 sync : List ℕ
@@ -41,7 +45,57 @@ run n = after ours (Put sync) (made ours (replicate n 0xFF) .bytes)
 example :
     (told (run 62 .answer) ≡ refusal 8) × (told (run 65 .answer) ≡ done 0)
     × (run 65 .bytes ≡ 1 ∷ 1 ∷ 0x00 ∷ 0x41 ∷ 0 ∷ 0 ∷ 0 ∷ 0 ∷ 0 ∷ 0 ∷ 0x00 ∷ 0x3E ∷ (replicate 50 0 ++ sync))
-unfolding sync made call opened judge image header words place flat presentFrom offsetAt wordAt allZero framesFrom putOn placed seat held slotOf
-    slotFor decode sought answered judged known stray lacking find takes isIn lists rxBwCodes narrowOf narrowsOf tab tabFrom byteOf maskOf reads part mask
+unfolding sync made call opened judge image header words place flat presentFrom offsetAt wordAt allZero framesFrom single inBoth bothIn putOn placed seat
+    other otherIn held slotOf slotFor decode sought answered judged known stray lacking find takes isIn lists rxBwCodes narrowOf narrowsOf tab tabFrom byteOf
+    maskOf reads part mask
     read readTo
 example = (refl, refl, refl)
+
+-- ---- the two forms of the receive path
+
+-- by its short command, and by its long one with a boost
+short : List ℕ
+short = 0x02 ∷ 0x01 ∷ 0x00 ∷ []
+
+long : ℕ → List ℕ
+long boost = 0x02 ∷ 0x01 ∷ 0x00 ∷ boost ∷ []
+
+-- 868.1 MHz
+freq : List ℕ
+freq = 0x02 ∷ 0x00 ∷ 0x33 ∷ 0xBE ∷ 0x27 ∷ 0xA0 ∷ []
+
+-- the frames after some calls, in a book of n bytes
+abbrev left : ℕ → List Call → List (List ℕ)
+left n cs = onList (turn (roomOf ours n)) cs [] .frames
+
+-- the technician's puts, one more each time; and the last of them where a byte lacks
+story :
+    (left 72 (Put (long 4) ∷ Put freq ∷ []) ≡ long 4 ∷ freq ∷ []) × (left 72 (Put (long 4) ∷ Put freq ∷ Put short ∷ []) ≡ short ∷ freq ∷ [])
+    × (left 72 (Put (long 4) ∷ Put freq ∷ Put short ∷ Put (long 7) ∷ []) ≡ long 7 ∷ freq ∷ [])
+    × (left 71 (Put short ∷ Put freq ∷ Put (long 7) ∷ []) ≡ short ∷ freq ∷ [])
+    × (told (turn (roomOf ours 71) (Put (long 7)) (short ∷ freq ∷ []) .answer) ≡ refusal 8)
+unfolding short long freq onList turn flat putOn placed swapIn seat other otherIn held slotOf slotFor decode sought answered judged known stray lacking find
+    takes isIn lists rxBwCodes narrowOf narrowsOf tab tabFrom byteOf maskOf reads part mask read readTo
+story = (refl, refl, refl, refl, refl)
+
+-- and what the radio is then sent
+sent : turn (roomOf ours 72) (Replay (replicate 12 0)) (long 7 ∷ freq ∷ []) .output ≡ (4 ∷ long 7) ++ (6 ∷ freq)
+unfolding long freq turn replayOn reelOf
+sent = refl
+
+-- ask and removal go by the kind: what is held in the long form is not held in the short one
+exact :
+    (told (turn 10 (Ask 25 (replicate 12 0)) (long 7 ∷ []) .answer) ≡ refusal 9) × (told (turn 10 (Remove 25) (long 7 ∷ []) .answer) ≡ refusal 9)
+    × (told (turn 10 (Ask 26 (replicate 12 0)) (long 7 ∷ []) .answer) ≡ done 4) × (turn 10 (Remove 26) (long 7 ∷ []) .frames ≡ [])
+unfolding long turn askOn removeOn without frameOf held slotOf slotFor decode sought answered judged known stray lacking find takes isIn lists rxBwCodes
+    narrowOf narrowsOf tab tabFrom byteOf maskOf reads part mask read readTo
+exact = (refl, refl, refl, refl)
+
+-- a stored book of both forms gets 16, before a put decodes; with a byte behind its end that is not 0 it gets 10
+both :
+    (told (after ours (Put []) (image ours 69 (short ∷ long 7 ∷ [])) .answer) ≡ refusal 16)
+    × (told (after ours (Put []) (image ours 69 (short ∷ long 7 ∷ []) ++ (1 ∷ [])) .answer) ≡ refusal 10)
+unfolding short long call opened judge image header words place flat presentFrom offsetAt wordAt allZero framesFrom lengthAt lengthBy slotFrom sizeOf lengths
+    single inBoth bothIn held slotOf slotFor decode sought answered judged known stray lacking find takes isIn lists rxBwCodes narrowOf narrowsOf tab tabFrom
+    byteOf maskOf reads part mask read readTo
+both = (refl, refl)

@@ -10,6 +10,7 @@ use lib.ListN.{length}
 use Rattle.table.specs.Table.{settings}
 use Rattle.contents.specs.Contents.{Layout, holds, image, longest, roomOf, start}
 use Rattle.contents.proofs.Written.{image-judge, image-length}
+use Rattle.forms.proofs.Forms.{forms-single}
 use Rattle.book.specs.Plain.{Turn, askOn, become, clearOn, putOn, removeOn, replayOn}
 use Rattle.book.specs.Book.{Outcome, call, made, opened, ours}
 use Rattle.book.specs.History.{Ask, Call, Clear, Make, Put, Remove, Replay, after, onBytes, onList, turn}
@@ -35,7 +36,7 @@ module _ (l : Layout) (n : ℕ) (low : start (l .slots) ≤ n) (high : n ≤ lon
   -- the image of a list that is kept opens as that list
   pub opened-image : (fs : List (List ℕ)) → Kept (l .slots) (roomOf l n) fs → opened l (image l n fs) ≡ holds fs
   unfolding opened
-  opened-image fs K = image-judge l n fs (K .sound) (K .within) (omega (arith, K .room)) high
+  opened-image fs K = rw (image-judge l n fs (K .sound) (K .within) (omega (arith, K .room)) high, forms-single fs (K .forms))
 
   -- what an outcome is, by the turn on the list
   abbrev pub shown : Turn → Outcome

@@ -1,13 +1,13 @@
 -- What a list needs so that a book can hold it (`Kept`), and that every call keeps it (`put-kept`, `remove-kept`, `ask-kept`, `turn-kept`), a
 -- list of calls too (`turns-kept`); a book that opens holds such a list (`opened-kept`).
 -- Assumes nothing.
-use mathlib.Core.Path.{ap, refl, subst, sym, _∙_, _≡_}
+use mathlib.Core.Path.{refl, subst, sym, _∙_, _≡_}
 use mathlib.Core.Bool.{Bool, cond, false, false≢true, true}
 use mathlib.Core.List.{List, [], _++_, _∷_}
-use Prim.Native.Nat.{ℕ, _<_, _≤_}
+use Prim.Native.Nat.{ℕ, _≤_}
 use native.Mathlib.Nat.{le-refl}
 use native.Mathlib.Omega.{arith}
-use borrow.Author.Tests.{eqb-false, eqb-true, leb-true, ltb-true, ne-eqb}
+use borrow.Author.Tests.{leb-true, ltb-true}
 use lib.Dec.{eqb, leb, ltb}
 use lib.ListN.{drop, getD, length, length-append}
 use Rattle.refusal.specs.declared.Refusal.the-variants.{NoRoom, NotAKind, NotHeld, OutputShort}
@@ -20,37 +20,22 @@ use Rattle.contents.specs.Frames.{flat, held}
 use Rattle.contents.specs.Contents.{Layout, holds, roomOf, start, wordAt}
 use Rattle.contents.proofs.Shape.{Sound, Within, sound-within}
 use Rattle.contents.proofs.Judged.{framesFrom-tiled, judge-reads}
-use Rattle.book.specs.Plain.{Turn, askOn, become, clearOn, frameOf, placed, putOn, refuse, removeOn, replayOn, seat, swapIn, tell, without}
+use Rattle.forms.specs.Forms.{other}
+use Rattle.forms.proofs.Forms.{OneForm}
+use Rattle.book.specs.Plain.{Turn, askOn, become, clearOn, frameOf, placed, putOn, refuse, removeOn, replayOn, tell, without}
 use Rattle.book.specs.Book.{opened}
 use Rattle.book.specs.History.{Ask, Call, Clear, Make, Put, Remove, Replay, onList, turn}
-use Rattle.book.proofs.Calls.{opened-judge}
+use Rattle.book.proofs.Calls.{opened-forms, opened-judge}
+use Rattle.book.proofs.Placed.{placed-forms, placed-sound}
 
 -- a list that a book of m slots with room for n bytes of frames can hold
 pub record Kept (m n : ℕ) (fs : List (List ℕ)) : Type 0 where
   pub sound : Sound fs
   pub within : Within m fs
+  pub forms : OneForm fs
   pub room : length (flat fs) ≤ n
 
 -- ---- the steps keep it
-
-held-swap : (k : ℕ) (f : List ℕ) → slotOf f ≡ k → (j : ℕ) (fs : List (List ℕ)) → held j (swapIn k f fs) ≡ held j fs
-unfolding held swapIn
-held-swap k f own j [] = refl
-held-swap k f own j (g ∷ fs) = go (held-swap k f own j fs) (eqb (slotOf g) k) refl
-  where
-    go : held j (swapIn k f fs) ≡ held j fs → (t : Bool) → eqb (slotOf g) k ≡ t
-        → held j (cond t (f ∷ fs) (g ∷ swapIn k f fs)) ≡ cond (eqb (slotOf g) j) true (held j fs)
-    go ih true w = ap (λ (x : ℕ). cond (eqb x j) true (held j fs)) (own ∙ sym (eqb-true _ _ w))
-    go ih false w = ap (λ (x : Bool). cond (eqb (slotOf g) j) true x) ih
-
-sound-swap : (k : ℕ) (f : List ℕ) → slotOf f ≡ k → k < settings → (fs : List (List ℕ)) → Sound fs → Sound (swapIn k f fs)
-unfolding swapIn
-sound-swap k f own a [] s = tt
-sound-swap k f own a (g ∷ fs) s = go (sound-swap k f own a fs (s .2)) (eqb (slotOf g) k) refl
-  where
-    go : Sound (swapIn k f fs) → (t : Bool) → eqb (slotOf g) k ≡ t → Sound (cond t (f ∷ fs) (g ∷ swapIn k f fs))
-    go ih true w = (omega arith, ap (λ (x : ℕ). held x fs) (own ∙ sym (eqb-true _ _ w)) ∙ s .1, s .2)
-    go ih false w = (s .0, held-swap k f own (slotOf g) fs ∙ s .1, ih)
 
 held-without : (k j : ℕ) (fs : List (List ℕ)) → held j fs ≡ false → held j (without k fs) ≡ false
 unfolding held without
@@ -72,32 +57,12 @@ sound-without k (g ∷ fs) s = go (sound-without k fs (s .2)) (eqb (slotOf g) k)
     go ih true = s .2
     go ih false = (s .0, held-without k (slotOf g) fs (s .1), ih)
 
-held-append : (f : List ℕ) (j : ℕ) (fs : List (List ℕ)) → held j fs ≡ false → (slotOf f ≡ j → ⊥) → held j (fs ++ (f ∷ [])) ≡ false
-unfolding held
-held-append f j [] h n = rw (ne-eqb (slotOf f) j n)
-held-append f j (g ∷ fs) h n = go (λ q. held-append f j fs q n) (eqb (slotOf g) j) h
+forms-without : (k : ℕ) (fs : List (List ℕ)) → OneForm fs → OneForm (without k fs)
+forms-without k fs S s p q = S s (was s (held s fs) refl p) (was (other s) (held (other s) fs) refl q)
   where
-    go : (held j fs ≡ false → held j (fs ++ (f ∷ [])) ≡ false) → (t : Bool) → cond t true (held j fs) ≡ false → cond t true (held j (fs ++ (f ∷ []))) ≡ false
-    go ih true q = absurd (false≢true (sym q))
-    go ih false q = ih q
-
-sound-append : (f : List ℕ) (fs : List (List ℕ)) → slotOf f < settings → held (slotOf f) fs ≡ false → Sound fs → Sound (fs ++ (f ∷ []))
-unfolding held
-sound-append f [] a h s = (a, refl, tt)
-sound-append f (g ∷ fs) a h s = go (λ q. sound-append f fs a q (s .2)) (eqb (slotOf g) (slotOf f)) refl h
-  where
-    go : (held (slotOf f) fs ≡ false → Sound (fs ++ (f ∷ []))) → (t : Bool) → eqb (slotOf g) (slotOf f) ≡ t → cond t true (held (slotOf f) fs) ≡ false
-        → Sound (g ∷ (fs ++ (f ∷ [])))
-    go ih true w q = absurd (false≢true (sym q))
-    go ih false w q = (s .0, held-append f (slotOf g) fs (s .1) (λ e. eqb-false _ _ w (sym e)), ih q)
-
-placed-sound : (f : List ℕ) (fs : List (List ℕ)) → slotOf f < settings → Sound fs → Sound (placed f fs)
-unfolding placed seat
-placed-sound f fs a s = go (held (slotOf f) fs) refl
-  where
-    go : (t : Bool) → held (slotOf f) fs ≡ t → Sound (cond t (swapIn (slotOf f) f fs) (fs ++ (f ∷ [])))
-    go true e = sound-swap (slotOf f) f refl a fs s
-    go false e = sound-append f fs a e s
+    was : (j : ℕ) (t : Bool) → held j fs ≡ t → held j (without k fs) ≡ true → held j fs ≡ true
+    was j true w q = w
+    was j false w q = absurd (false≢true (sym (held-without k j fs w) ∙ q))
 
 without-le : (k : ℕ) (fs : List (List ℕ)) → length (flat (without k fs)) ≤ length (flat fs)
 unfolding flat without
@@ -127,8 +92,8 @@ tell-frames x o fs = go (leb (length x) (length o))
     go false = refl
 
 pub empty-kept : (m n : ℕ) → Kept m n []
-unfolding flat
-empty-kept m n = record { sound = tt; within = tt; room = omega arith }
+unfolding flat held
+empty-kept m n = record { sound = tt; within = tt; forms = λ s p q. absurd (false≢true p); room = omega arith }
 
 module _ (m n : ℕ) (fs : List (List ℕ)) (K : Kept m n fs) (o : List ℕ) where
   pub tell-kept : (x : List ℕ) → Kept m n (tell x o fs .frames)
@@ -145,7 +110,7 @@ module _ (m n : ℕ) (fs : List (List ℕ)) (K : Kept m n fs) (o : List ℕ) whe
       go true p false q = K
       go true p true q =
           let s : Sound (placed f fs) = placed-sound f fs (ltb-true _ _ p) (K .sound) in
-          record { sound = s; within = sound-within m big (placed f fs) s; room = leb-true _ _ q }
+          record { sound = s; within = sound-within m big (placed f fs) s; forms = placed-forms f fs (K .sound) (K .forms); room = leb-true _ _ q }
 
   pub remove-kept : (k : ℕ) → Kept m n (removeOn k o n fs .frames)
   unfolding removeOn
@@ -158,6 +123,7 @@ module _ (m n : ℕ) (fs : List (List ℕ)) (K : Kept m n fs) (o : List ℕ) whe
           record {
             sound = sound-without (slotFor k) fs (K .sound);
             within = within-without m (slotFor k) fs (K .within);
+            forms = forms-without (slotFor k) fs (K .forms);
             room = omega (arith, K .room, without-le (slotFor k) fs);
           }
 
@@ -190,4 +156,4 @@ pub opened-kept : (l : Layout) (b : List ℕ) (fs : List (List ℕ)) → opened 
 opened-kept l b fs h =
     let r = judge-reads l b fs (opened-judge l b fs h) in
     let t = framesFrom-tiled (l .slots) (getD b 1 0) b (start (l .slots)) (wordAt b 2) fs (r .tiled) in
-    record { sound = t .sound; within = t .within; room = omega (arith, t .ends, r .high) }
+    record { sound = t .sound; within = t .within; forms = opened-forms l b fs h; room = omega (arith, t .ends, r .high) }

@@ -1,11 +1,12 @@
 -- What is known of the bytes of a sound book, by the list that they hold: its offsets, its end, its count; and a step that leaves the list
 -- (`stay`).
 -- Assumes nothing.
-use mathlib.Core.Path.{refl, sym, _∙_, _≡_}
+use mathlib.Core.Path.{ap, refl, sym, _∙_, _≡_}
 use mathlib.Core.Bool.{Bool, false, not, true}
 use mathlib.Core.List.{List}
 use Prim.Native.Nat.{ℕ, _+_, _<_, _≤_}
 use native.Mathlib.Omega.{arith}
+use borrow.Author.Tests.{eq-eqb, ne-eqb}
 use lib.Dec.{eqb}
 use lib.ListN.{getD, length}
 use Rattle.settings.specs.Settings.{sizeOf}
@@ -16,7 +17,7 @@ use Rattle.contents.proofs.Judged.{Bytes, Reads, Tiled, framesFrom-tiled, judge
 use Rattle.book.specs.Plain.{Turn}
 use Rattle.book.specs.declared.Answer.{Answer}
 use Rattle.book.specs.Edits.{Low}
-use Rattle.book.proofs.Calls.{Gives, Holds, accept, holds-reads}
+use Rattle.book.proofs.Calls.{Gives, Holds, accept, holds-reads, present-held}
 
 module _ (l : Layout) (b : List ℕ) (B : Bytes b) (h : Holds l b) where
   pub tiling : Tiled (l .slots) b (start (l .slots)) (wordAt b 2) (getD b 1 0) (h .frames)
@@ -27,18 +28,10 @@ module _ (l : Layout) (b : List ℕ) (B : Bytes b) (h : Holds l b) where
 
   -- a slot's offset is 0 exactly where it is not held
   pub is-held : (k at : ℕ) → k < l .slots → at ≡ offsetAt b k → (at ≡ 0 → ⊥) → held k (h .frames) ≡ true
-  is-held k at a o n = go (held k (h .frames)) refl
-    where
-      go : (x : Bool) → held k (h .frames) ≡ x → held k (h .frames) ≡ true
-      go true q = q
-      go false q = absurd (n (o ∙ offsets l b (h .frames) (holds-reads l b h) k a ∙ place-none (start (l .slots)) (h .frames) k q))
+  is-held k at a o n = sym (present-held l b (h .frames) (h .reads) k a) ∙ ap not (ne-eqb (offsetAt b k) 0 (λ z. n (o ∙ z)))
 
   pub not-held : (k at : ℕ) → k < l .slots → at ≡ offsetAt b k → at ≡ 0 → held k (h .frames) ≡ false
-  not-held k at a o n = go (held k (h .frames)) refl
-    where
-      go : (x : Bool) → held k (h .frames) ≡ x → held k (h .frames) ≡ false
-      go false q = q
-      go true q = absurd (omega (arith, offsets l b (h .frames) (holds-reads l b h) k a, place-ge (start (l .slots)) (h .frames) k q))
+  not-held k at a o z = sym (present-held l b (h .frames) (h .reads) k a) ∙ ap not (eq-eqb (offsetAt b k) 0 (sym o ∙ z))
 
   pub end-is : wordAt b 2 ≡ start (l .slots) + length (flat (h .frames))
   end-is = sym (tiling .ends)
@@ -49,7 +42,15 @@ module _ (l : Layout) (b : List ℕ) (B : Bytes b) (h : Holds l b) where
   pub count-few : getD b 1 0 ≤ l .slots
   count-few = omega (arith, holds-reads l b h .count, present-count (l .slots) 0 b, count-most (l .slots) 0 (λ j. not (eqb (offsetAt b j) 0)))
 
-  -- what is held ends within the frames
+  -- what is held stands behind the header
+  pub held-past : (k at : ℕ) → k < l .slots → at ≡ offsetAt b k → (at ≡ 0 → ⊥) → start (l .slots) ≤ at
+  held-past k at a o n = omega (
+    arith,
+    offsets l b (h .frames) (holds-reads l b h) k a,
+    place-ge (start (l .slots)) (h .frames) k (is-held k at a o n),
+  )
+
+  -- and ends within the frames
   pub held-within : (k at : ℕ) → k < l .slots → at ≡ offsetAt b k → (at ≡ 0 → ⊥) → at + (sizeOf k) ≤ wordAt b 2
   held-within k at a o n = omega (
     arith,

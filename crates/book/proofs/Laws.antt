@@ -1,12 +1,18 @@
 -- What the plain list keeps to (REFERENCE, "Book"); with the history theorem it holds of every book.
---     placed-newest, placed-others    after a put the list has that frame of its kind, and of every other what it had
---     placed-order, placed-last       a kind that is held keeps its place; one that is not goes to the end
+--     placed-newest, placed-others    after a put the list has that frame of its kind, and of every other setting what it had
+--     placed-order                    a kind that is held keeps its place
+--     placed-instead                  a frame takes the place of the one that holds its setting, in either form, and nothing else moves
+--     placed-last, placed-gone        (proofs/Placed.antt) a setting that is not held goes to the end; after a put the other form is not held
 --     without-gone, without-others    a removed kind is gone, every other stays
 --     without-order                   and in the order that they had
 --     without-room                    a removal frees the bytes of its frame
 --     setting-put                     a setting's frame is put, or refused for room
 --     setting-full, put-eight         8 exactly when the list with the frame would not fit
 --     setting-over                    an overwrite never needs room
+--     form-room, form-shorter         room is judged on the list after a swap; a swap to the shorter form always fits
+--     setting-fits                    where 169 bytes have room, no setting is refused for room
+--     remove-nine, ask-nine           9 exactly where the very kind is not held
+--     form-nine                       and so for the form that is not held where the other one is
 --     checked-put                     what the checked builder makes of a setting is never refused but for room
 --     replay-whole                    a replay reports the sum of the lengths and one byte a frame
 --     replay-steps                    and stepped through as a reel it gives the frames, and then the end
@@ -16,21 +22,28 @@
 use mathlib.Core.Path.{ap, ap₂, refl, subst, sym, _∙_, _≡_}
 use mathlib.Core.Bool.{Bool, cond, false, false≢true, true}
 use mathlib.Core.List.{List, [], _++_, _∷_}
-use Prim.Native.Nat.{suc, ℕ, _+_, _<_, _≤_}
+use mathlib.Core.Logic.{inl, inr, _⊎_}
+use Prim.Native.Nat.{ℕ, _+_, _-_, _<_, _≤_}
 use native.Mathlib.Omega.{arith}
-use borrow.Author.Tests.{eq-eqb, eqb-true, le-leb, leb-false, lt-leb, lt-ltb, ltb-true, ne-eqb}
+use borrow.Author.Tests.{eq-eqb, eqb-false, eqb-true, le-leb, leb-false, lt-leb, lt-ltb, ltb-true, ne-eqb}
 use lib.Dec.{eqb, leb, ltb}
-use lib.ListN.{drop, getD, length, length-append, take}
+use lib.ListN.{drop, length, length-append, take}
 use lib.Seq.{take-at}
 use Rattle.table.specs.Table.{settings}
 use Rattle.settings.specs.Settings.{lacks, sizeOf, slotFor, slotIn, slotOf}
 use Rattle.settings.proofs.Settings.{slot-one, slotOf-length}
 use Rattle.contents.specs.Frames.{flat, held}
 use Rattle.contents.specs.Contents.{Layout, holds, image, judge}
-use Rattle.contents.proofs.Shape.{Sound}
-use Rattle.contents.proofs.Judged.{Bytes, apart, judge-image}
-use Rattle.book.specs.Plain.{Turn, askOn, become, frameOf, placed, putOn, refuse, replayOn, seat, swapIn, tell, without}
-use Rattle.book.proofs.Putting.{swap-room}
+use Rattle.contents.proofs.Shape.{Sound, place-in}
+use Rattle.forms.specs.Forms.{other}
+use Rattle.forms.proofs.Forms.{OneForm}
+use Rattle.forms.proofs.Most.{most-bytes}
+use Rattle.contents.proofs.Judged.{Bytes, judge-image}
+use Rattle.book.specs.Plain.{Turn, askOn, become, frameOf, ifHeld, placed, putOn, refuse, removeOn, replayOn, swapIn, tell, without}
+use Rattle.book.proofs.Placed.{by-place, held-after, held-cons, held-here, placed-forms, placed-over, placed-sound, placed-swap}
+use Rattle.book.proofs.Placed.{sound-middle}
+use Rattle.book.proofs.Swapping.{swap-room}
+use Rattle.book.proofs.Putting.{over-room, putOn-fits}
 use Rattle.refusal.specs.Numbers.{numberOf}
 use Rattle.refusal.specs.declared.Refusal.the-variants.{NoRoom, NotAKind, NotHeld, OutputShort}
 use Rattle.builder.specs.Building.{checked, makes}
@@ -52,16 +65,17 @@ abbrev pub slotsIn : List (List ℕ) → List ℕ
 slotsIn [] = []
 slotsIn (f ∷ fs) = slotOf f ∷ slotsIn fs
 
-swap-newest : (f : List ℕ) (fs : List (List ℕ)) → held (slotOf f) fs ≡ true → frameOf (slotOf f) (swapIn (slotOf f) f fs) ≡ f
+swap-newest : (k : ℕ) (f : List ℕ) (fs : List (List ℕ)) → ((slotOf f ≡ k → ⊥) → held (slotOf f) fs ≡ false) → held k fs ≡ true
+    → frameOf (slotOf f) (swapIn k f fs) ≡ f
 unfolding held frameOf swapIn
-swap-newest f [] h = absurd (false≢true h)
-swap-newest f (g ∷ fs) h = go (swap-newest f fs) (eqb (slotOf g) (slotOf f)) refl h
+swap-newest k f [] r h = absurd (false≢true h)
+swap-newest k f (g ∷ fs) r h = go (λ q. swap-newest k f fs (λ n. held-cons (slotOf f) g fs (r n) .1) q) (eqb (slotOf g) k) refl h
   where
-    go : (held (slotOf f) fs ≡ true → frameOf (slotOf f) (swapIn (slotOf f) f fs) ≡ f) → (t : Bool) → eqb (slotOf g) (slotOf f) ≡ t
-        → cond t true (held (slotOf f) fs) ≡ true
-        → frameOf (slotOf f) (cond t (f ∷ fs) (g ∷ swapIn (slotOf f) f fs)) ≡ f
+    go : (held k fs ≡ true → frameOf (slotOf f) (swapIn k f fs) ≡ f) → (t : Bool) → eqb (slotOf g) k ≡ t → cond t true (held k fs) ≡ true
+        → frameOf (slotOf f) (cond t (f ∷ fs) (g ∷ swapIn k f fs)) ≡ f
     go ih true e q = rw (eq-eqb (slotOf f) (slotOf f) refl)
-    go ih false e q = rw e (ih q)
+    go ih false e q =
+        rw (ne-eqb (slotOf g) (slotOf f) (λ z. held-cons (slotOf f) g fs (r (λ y. eqb-false (slotOf g) k e (z ∙ y))) .0 z)) (ih q)
 
 append-newest : (f : List ℕ) (fs : List (List ℕ)) → held (slotOf f) fs ≡ false → frameOf (slotOf f) (fs ++ (f ∷ [])) ≡ f
 unfolding held frameOf
@@ -74,21 +88,18 @@ append-newest f (g ∷ fs) h = go (append-newest f fs) (eqb (slotOf g) (slotOf f
     go ih false q = ih q
 
 pub placed-newest : (f : List ℕ) (fs : List (List ℕ)) → frameOf (slotOf f) (placed f fs) ≡ f
-unfolding placed seat
-placed-newest f fs = go (held (slotOf f) fs) refl
-  where
-    go : (t : Bool) → held (slotOf f) fs ≡ t → frameOf (slotOf f) (cond t (swapIn (slotOf f) f fs) (fs ++ (f ∷ []))) ≡ f
-    go true e = swap-newest f fs e
-    go false e = append-newest f fs e
+placed-newest f fs =
+    by-place f fs (λ gs. frameOf (slotOf f) gs ≡ f) (λ h. swap-newest (slotOf f) f fs (λ n. absurd (n refl)) h)
+    (λ h q. swap-newest (other (slotOf f)) f fs (λ n. h) q) (λ h q. append-newest f fs h)
 
-swap-others : (f : List ℕ) (s : ℕ) → (slotOf f ≡ s → ⊥) → (fs : List (List ℕ)) → frameOf s (swapIn (slotOf f) f fs) ≡ frameOf s fs
+swap-others : (k : ℕ) (f : List ℕ) (s : ℕ) → (slotOf f ≡ s → ⊥) → (k ≡ s → ⊥) → (fs : List (List ℕ)) → frameOf s (swapIn k f fs) ≡ frameOf s fs
 unfolding frameOf swapIn
-swap-others f s n [] = refl
-swap-others f s n (g ∷ fs) = go (swap-others f s n fs) (eqb (slotOf g) (slotOf f)) refl
+swap-others k f s n m [] = refl
+swap-others k f s n m (g ∷ fs) = go (swap-others k f s n m fs) (eqb (slotOf g) k) refl
   where
-    go : frameOf s (swapIn (slotOf f) f fs) ≡ frameOf s fs → (t : Bool) → eqb (slotOf g) (slotOf f) ≡ t
-        → frameOf s (cond t (f ∷ fs) (g ∷ swapIn (slotOf f) f fs)) ≡ cond (eqb (slotOf g) s) g (frameOf s fs)
-    go ih true e = rw (eqb-true (slotOf g) (slotOf f) e, ne-eqb (slotOf f) s n)
+    go : frameOf s (swapIn k f fs) ≡ frameOf s fs → (t : Bool) → eqb (slotOf g) k ≡ t
+        → frameOf s (cond t (f ∷ fs) (g ∷ swapIn k f fs)) ≡ cond (eqb (slotOf g) s) g (frameOf s fs)
+    go ih true e = rw (eqb-true (slotOf g) k e, ne-eqb (slotOf f) s n, ne-eqb k s m)
     go ih false e = ap (λ (x : List ℕ). cond (eqb (slotOf g) s) g x) ih
 
 append-others : (f : List ℕ) (s : ℕ) → (slotOf f ≡ s → ⊥) → (fs : List (List ℕ)) → frameOf s (fs ++ (f ∷ [])) ≡ frameOf s fs
@@ -96,13 +107,13 @@ unfolding frameOf
 append-others f s n [] = rw (ne-eqb (slotOf f) s n)
 append-others f s n (g ∷ fs) = ap (λ (x : List ℕ). cond (eqb (slotOf g) s) g x) (append-others f s n fs)
 
-pub placed-others : (f : List ℕ) (fs : List (List ℕ)) (s : ℕ) → (slotOf f ≡ s → ⊥) → frameOf s (placed f fs) ≡ frameOf s fs
-unfolding placed seat
-placed-others f fs s n = go (held (slotOf f) fs)
-  where
-    go : (t : Bool) → frameOf s (cond t (swapIn (slotOf f) f fs) (fs ++ (f ∷ []))) ≡ frameOf s fs
-    go true = swap-others f s n fs
-    go false = append-others f s n fs
+-- of every other setting the list has what it had
+pub placed-others : (f : List ℕ) (fs : List (List ℕ)) (s : ℕ) → (slotOf f ≡ s → ⊥) → (other (slotOf f) ≡ s → ⊥) → frameOf s (placed f fs) ≡ frameOf s fs
+placed-others f fs s n m =
+    by-place f fs (λ gs. frameOf s gs ≡ frameOf s fs) (λ h. swap-others (slotOf f) f s n n fs) (λ h q. swap-others (other (slotOf f)) f s n m fs)
+    (λ h q. append-others f s n fs)
+
+-- ---- the order
 
 swap-order : (f : List ℕ) (fs : List (List ℕ)) → slotsIn (swapIn (slotOf f) f fs) ≡ slotsIn fs
 unfolding swapIn
@@ -115,12 +126,38 @@ swap-order f (g ∷ fs) = go (swap-order f fs) (eqb (slotOf g) (slotOf f)) refl
     go ih false e = ap (λ (l : List ℕ). slotOf g ∷ l) ih
 
 pub placed-order : (f : List ℕ) (fs : List (List ℕ)) → held (slotOf f) fs ≡ true → slotsIn (placed f fs) ≡ slotsIn fs
-unfolding placed seat
-placed-order f fs h = rw h (swap-order f fs)
+placed-order f fs h = rw (placed-over f fs h) (swap-order f fs)
 
-pub placed-last : (f : List ℕ) (fs : List (List ℕ)) → held (slotOf f) fs ≡ false → placed f fs ≡ fs ++ (f ∷ [])
-unfolding placed seat
-placed-last f fs h = rw h
+swap-middle : (f : List ℕ) (xs : List (List ℕ)) (g : List ℕ) (ys : List (List ℕ)) → held (slotOf g) xs ≡ false
+    → swapIn (slotOf g) f (xs ++ (g ∷ ys)) ≡ xs ++ (f ∷ ys)
+unfolding swapIn
+swap-middle f [] g ys h = rw (eq-eqb (slotOf g) (slotOf g) refl)
+swap-middle f (x ∷ xs) g ys h =
+    let z = held-cons (slotOf g) x xs h in rw (ne-eqb (slotOf x) (slotOf g) (z .0)) (ap (λ (l : List (List ℕ)). x ∷ l) (swap-middle f xs g ys (z .1)))
+
+-- A frame takes the place of the one that holds its setting, in whichever form, and nothing else moves
+pub placed-instead : (f : List ℕ) (xs : List (List ℕ)) (g : List ℕ) (ys : List (List ℕ)) → Sound (xs ++ (g ∷ ys)) → OneForm (xs ++ (g ∷ ys))
+    → (slotOf g ≡ slotOf f) ⊎ (slotOf g ≡ other (slotOf f)) → placed f (xs ++ (g ∷ ys)) ≡ xs ++ (f ∷ ys)
+placed-instead f xs g ys S F c = by c (held (slotOf f) (xs ++ (g ∷ ys))) refl
+  where
+    there : held (slotOf g) (xs ++ (g ∷ ys)) ≡ true
+    there = held-after (slotOf g) xs (g ∷ ys) (held-here g ys)
+
+    middle : swapIn (slotOf g) f (xs ++ (g ∷ ys)) ≡ xs ++ (f ∷ ys)
+    middle = swap-middle f xs g ys (sound-middle xs g ys S .1)
+
+    own : slotOf g ≡ slotOf f → placed f (xs ++ (g ∷ ys)) ≡ xs ++ (f ∷ ys)
+    own e =
+        placed-over f (xs ++ (g ∷ ys)) (ap (λ (j : ℕ). held j (xs ++ (g ∷ ys))) (sym e) ∙ there)
+        ∙ ap (λ (j : ℕ). swapIn j f (xs ++ (g ∷ ys))) (sym e) ∙ middle
+
+    by : (slotOf g ≡ slotOf f) ⊎ (slotOf g ≡ other (slotOf f)) → (t : Bool) → held (slotOf f) (xs ++ (g ∷ ys)) ≡ t
+        → placed f (xs ++ (g ∷ ys)) ≡ xs ++ (f ∷ ys)
+    by (inl e) t w = own e
+    by (inr e) true w = own (e ∙ F (slotOf f) w (ap (λ (j : ℕ). held j (xs ++ (g ∷ ys))) (sym e) ∙ there))
+    by (inr e) false w =
+        placed-swap f (xs ++ (g ∷ ys)) w (ap (λ (j : ℕ). held j (xs ++ (g ∷ ys))) (sym e) ∙ there)
+        ∙ ap (λ (j : ℕ). swapIn j f (xs ++ (g ∷ ys))) (sym e) ∙ middle
 
 -- ---- removal
 
@@ -195,10 +232,27 @@ module _ (f o : List ℕ) (room : ℕ) (fs : List (List ℕ)) (a : slotOf f < se
       go false p q = leb-false _ _ p
 
   pub setting-over : held (slotOf f) fs ≡ true → Sound fs → length (flat fs) ≤ room → putOn f o room fs ≡ become o (placed f fs)
-  unfolding placed seat
   setting-over h S r =
-      let e : length (flat (swapIn (slotOf f) f fs)) ≡ length (flat fs) = swap-room (slotOf f) f fs refl (slotOf-length f a) S h in
-      setting-put ∙ rw (h, le-leb (length (flat (swapIn (slotOf f) f fs))) room (omega arith))
+      let e = placed-over f fs h in
+      let n = over-room (slotOf f) f refl (slotOf-length f a) fs S h in
+      putOn-fits f o room fs a (placed f fs) refl (omega (arith, n, ap (λ (gs : List (List ℕ)). length (flat gs)) e))
+
+  module _ (S : Sound fs) (h : held (slotOf f) fs ≡ false) (q : held (other (slotOf f)) fs ≡ true) where
+    -- the bytes of the list after a swap, on which room is judged
+    pub form-room : length (flat (placed f fs)) ≡ length (flat fs) - sizeOf (other (slotOf f)) + sizeOf (slotOf f)
+    form-room =
+        ap (λ (gs : List (List ℕ)). length (flat gs)) (placed-swap f fs h q)
+        ∙ swap-room (other (slotOf f)) f fs S q
+        ∙ ap (λ (n : ℕ). length (flat fs) - sizeOf (other (slotOf f)) + n) (slotOf-length f a)
+
+    -- a swap to the shorter form always fits
+    pub form-shorter : sizeOf (slotOf f) ≤ sizeOf (other (slotOf f)) → length (flat fs) ≤ room → putOn f o room fs ≡ become o (placed f fs)
+    form-shorter e r = putOn-fits f o room fs a (placed f fs) refl (omega (arith, form-room, place-in 0 fs (other (slotOf f)) S q))
+
+  -- and where 169 bytes of frames have room, no setting is refused for room
+  pub setting-fits : Sound fs → OneForm fs → 169 ≤ room → putOn f o room fs ≡ become o (placed f fs)
+  setting-fits S F r =
+      putOn-fits f o room fs a (placed f fs) refl (omega (arith, most-bytes (placed f fs) (placed-sound f fs a S) (placed-forms f fs S F)))
 
 -- 8 is given to a setting's frame alone
 pub put-eight : (f o : List ℕ) (room : ℕ) (fs : List (List ℕ)) → putOn f o room fs .answer ≡ Refused NoRoom
@@ -223,6 +277,48 @@ unfolding slotOf
 checked-put k vs f e a o room fs =
     let q : slotOf f ≡ slotFor k = ap slotIn (decode-checked k vs f e) in
     setting-put f o room fs (omega arith)
+
+-- ---- the kind that is asked for
+
+module _ (s : ℕ) (t : Turn) (o : List ℕ) (fs : List (List ℕ)) (a : s < settings) where
+  asked : ifHeld s t o fs ≡ cond (held s fs) t (refuse NotHeld o fs)
+  asked = rw (lt-ltb s settings a)
+
+  -- 9 exactly where the slot is not held
+  nine : (t .answer ≡ Refused NotHeld → ⊥)
+      → (held s fs ≡ false → ifHeld s t o fs ≡ refuse NotHeld o fs) × (ifHeld s t o fs .answer ≡ Refused NotHeld → held s fs ≡ false)
+  nine n = ((λ h. asked ∙ rw h), λ e. go (held s fs) refl (sym (ap (λ (u : Turn). u .answer) asked) ∙ e))
+    where
+      go : (u : Bool) → held s fs ≡ u → cond {A = Turn} u t (refuse NotHeld o fs) .answer ≡ Refused NotHeld → u ≡ false
+      go true h e = absurd (n e)
+      go false h e = refl
+
+module _ (k : ℕ) (o : List ℕ) (room : ℕ) (fs : List (List ℕ)) (a : slotFor k < settings) where
+  pub remove-nine : (held (slotFor k) fs ≡ false → removeOn k o room fs ≡ refuse NotHeld o fs) × (removeOn k o room fs .answer ≡ Refused NotHeld
+      → held (slotFor k) fs ≡ false)
+  unfolding removeOn
+  remove-nine = nine (slotFor k) (become o (without (slotFor k) fs)) o fs a (λ e. done-refused 0 NotHeld e)
+
+  pub ask-nine : (held (slotFor k) fs ≡ false → askOn k o room fs ≡ refuse NotHeld o fs) × (askOn k o room fs .answer ≡ Refused NotHeld
+      → held (slotFor k) fs ≡ false)
+  unfolding askOn
+  ask-nine = nine (slotFor k) (tell (frameOf (slotFor k) fs) o fs) o fs a (told (leb (length (frameOf (slotFor k) fs)) (length o)))
+    where
+      x : List ℕ
+      x = frameOf (slotFor k) fs
+
+      told : (t : Bool) → cond {A = Turn} t (record { answer = Done (length x); output = x ++ drop (length x) o; frames = fs })
+          (refuse OutputShort o fs) .answer ≡ Refused NotHeld → ⊥
+      told true e = done-refused (length x) NotHeld e
+      told false e = let n : _≡_ {A = ℕ} 12 9 = ap number e in omega arith
+
+-- so the form that is not held gets it where the other one is
+pub form-nine : (s : ℕ) (fs : List (List ℕ)) → OneForm fs → (other s ≡ s → ⊥) → held (other s) fs ≡ true → held s fs ≡ false
+form-nine s fs F n h = go (held s fs) refl
+  where
+    go : (t : Bool) → held s fs ≡ t → t ≡ false
+    go true e = absurd (n (F s e h))
+    go false e = refl
 
 -- ---- ask and replay
 

@@ -1,6 +1,9 @@
 pub mod Calls
 pub mod Known
 pub mod Parts
+pub mod Placed
+pub mod Refitting
+pub mod Swapping
 pub mod Putting
 pub mod Removing
 pub mod Telling
@@ -9,6 +12,9 @@ pub mod History
 pub mod Laws
 pub mod Keeps
 pub mod Single
+pub mod Loading
+pub mod Full
 pub mod Places
+pub mod Both
 pub mod Outcome
 pub mod Examples

@@ -1,4 +1,5 @@
--- The place that an answer carries is at most 12, whatever the call and the bytes (`after-place`): it is the decoder's, or 0.
+-- What holds of each refusal that a step or a book's own judgement gives holds of every answer that is one (`after-says`); so the place that
+-- an answer carries is at most 12, whatever the call and the bytes (`after-place`): it is the decoder's, or 0.
 -- Assumes nothing.
 use mathlib.Core.Path.{refl, subst, _≡_}
 use mathlib.Core.Bool.{Bool, cond, false, true}
@@ -8,7 +9,7 @@ use native.Mathlib.Omega.{arith}
 use lib.Dec.{leb, ltb}
 use lib.ListN.{drop, length}
 use Rattle.refusal.specs.declared.Refusal.{Refusal}
-use Rattle.refusal.specs.declared.Refusal.the-variants.{BufferSize, NoRoom, NotAKind, NotHeld, OutputShort}
+use Rattle.refusal.specs.declared.Refusal.the-variants.{BothForms, BufferSize, NoRoom, NotAKind, NotHeld, OutputShort}
 use Rattle.refusal.specs.Numbers.{placeOf}
 use Rattle.contents.proofs.Places.{judge-place}
 use Rattle.decoder.specs.Decoding.{Reading, decode, reading, refuses}
@@ -21,104 +22,133 @@ use Rattle.settings.specs.Settings.{lacks, slotFor, slotOf}
 use Rattle.contents.specs.Frames.{flat, held}
 use Rattle.contents.specs.Contents.{Contents, Layout, holds, image, judge, longest, refused}
 use Rattle.contents.specs.Contents.{roomOf, start}
+use Rattle.forms.specs.Forms.{single}
 use Rattle.book.specs.Plain.{Turn, askOn, become, clearOn, frameOf, placed, putOn, refuse, removeOn, replayOn, tell, without}
-use Rattle.book.specs.Book.{Outcome, call, made, onContents, opened}
+use Rattle.book.specs.Book.{Outcome, agreed, call, made, onContents, opened}
 use Rattle.book.specs.History.{Ask, Call, Clear, Make, Put, Remove, Replay, after}
 
--- the place that an answer carries
-abbrev spot : Answer → ℕ
-spot (Done n) = 0
-spot (Refused x) = placeOf x
+-- what is said of an answer that is a refusal
+abbrev pub Says : (Refusal → Type 0) → Answer → Type 0
+Says P (Done n) = Unit
+Says P (Refused x) = P x
 
--- ---- a book's own refusals
+-- what holds of the steps' refusals
+pub record Steps (P : Refusal → Type 0) : Type 0 where
+  pub room : P NoRoom
+  pub held : P NotHeld
+  pub kind : P NotAKind
+  pub short : P OutputShort
+  pub frame : (f : List ℕ) (x : Refusal) → decode f ≡ refuses x → P x
 
-abbrev Near : Contents → Type 0
-Near (refused x) = placeOf x ≤ 12
-Near (holds fs) = 0 ≤ 12
+-- ---- make
 
-opened-near : (l : Layout) (b : List ℕ) → Near (opened l b)
-unfolding opened
-opened-near l b = by (judge l b) refl
-  where
-    by : (c : Contents) → judge l b ≡ c → Near c
-    by (refused x) e = omega (arith, judge-place l b x e)
-    by (holds fs) e = omega arith
-
--- ---- the steps
-
-tell-near : (x o : List ℕ) (fs : List (List ℕ)) → spot (tell x o fs .answer) ≤ 12
-tell-near x o fs = by (leb (length x) (length o))
-  where
-    by : (t : Bool) → spot (cond {A = Turn} t (record { answer = Done (length x); output = x ++ drop (length x) o; frames = fs })
-        (refuse OutputShort o fs) .answer) ≤ 12
-    by true = omega arith
-    by false = omega arith
-
-held-near : (t : Turn) (o : List ℕ) (fs : List (List ℕ)) → spot (t .answer) ≤ 12 → (a b : Bool)
-    → spot (cond {A = Turn} a (cond b t (refuse NotHeld o fs)) (refuse NotAKind o fs) .answer) ≤ 12
-held-near t o fs h true true = h
-held-near t o fs h true false = omega arith
-held-near t o fs h false b = omega arith
-
-put-near : (f o : List ℕ) (room : ℕ) (fs : List (List ℕ)) → spot (putOn f o room fs .answer) ≤ 12
-unfolding putOn
-put-near f o room fs = by (ltb (slotOf f) settings) (leb (length (flat (placed f fs))) room) (decode f) (decode-place f)
-  where
-    by : (a b : Bool) (x : Reading) → placeIn x ≤ 12
-        → spot (cond a (cond b (become o (placed f fs)) (refuse NoRoom o fs)) (refuse (lacks x) o fs) .answer) ≤ 12
-    by true true x h = omega arith
-    by true false x h = omega arith
-    by false b (reading k vs) h = omega arith
-    by false b (refuses x) h = h
-
-remove-near : (k : ℕ) (o : List ℕ) (room : ℕ) (fs : List (List ℕ)) → spot (removeOn k o room fs .answer) ≤ 12
-unfolding removeOn
-remove-near k o room fs = held-near (become o (without (slotFor k) fs)) o fs (omega arith) (ltb (slotFor k) settings) (held (slotFor k) fs)
-
-ask-near : (k : ℕ) (o : List ℕ) (room : ℕ) (fs : List (List ℕ)) → spot (askOn k o room fs .answer) ≤ 12
-unfolding askOn
-ask-near k o room fs =
-    held-near (tell (frameOf (slotFor k) fs) o fs) o fs (tell-near (frameOf (slotFor k) fs) o fs) (ltb (slotFor k) settings) (held (slotFor k) fs)
-
-clear-near : (o : List ℕ) (room : ℕ) (fs : List (List ℕ)) → spot (clearOn o room fs .answer) ≤ 12
-unfolding clearOn
-clear-near o room fs = omega arith
-
-replay-near : (o : List ℕ) (room : ℕ) (fs : List (List ℕ)) → spot (replayOn o room fs .answer) ≤ 12
-unfolding replayOn
-replay-near o room fs = tell-near (reelOf fs) o fs
-
--- ---- the calls
-
-module _ (l : Layout) (b : List ℕ) where
-  call-near : (s : List ℕ → ℕ → List (List ℕ) → Turn) (o : List ℕ) → ((o : List ℕ) (room : ℕ) (fs : List (List ℕ)) → spot (s o room fs .answer) ≤ 12)
-      → spot (call l s o b .answer) ≤ 12
-  unfolding call
-  call-near s o h = by (opened l b) (opened-near l b)
-    where
-      by : (c : Contents) → Near c → spot (onContents l s o b c .answer) ≤ 12
-      by (refused x) n = n
-      by (holds fs) n = h o (roomOf l (length b)) fs
-
-  made-near : spot (made l b .answer) ≤ 12
+module _ (P : Refusal → Type 0) (l : Layout) (b : List ℕ) (size : P BufferSize) where
+  pub made-says : Says P (made l b .answer)
   unfolding made
-  made-near = by (leb (start (l .slots)) (length b)) (leb (length b) longest)
+  made-says = by (leb (start (l .slots)) (length b)) (leb (length b) longest)
     where
       no : Outcome
       no = record { answer = Refused BufferSize; output = []; bytes = b }
 
-      by : (s t : Bool) → spot (cond {A = Outcome} s (cond t (record { answer = Done 0; output = []; bytes = image l (length b) [] }) no) no .answer) ≤ 12
-      by true true = omega arith
-      by true false = omega arith
-      by false t = omega arith
+      by : (s t : Bool) → Says P (cond {A = Outcome} s (cond t (record { answer = Done 0; output = []; bytes = image l (length b) [] }) no) no .answer)
+      by true true = tt
+      by true false = size
+      by false t = size
 
-  after-near : (c : Call) → spot (after l c b .answer) ≤ 12
-  after-near Make = made-near
-  after-near (Put f) = call-near (putOn f) [] (put-near f)
-  after-near (Remove k) = call-near (removeOn k) [] (remove-near k)
-  after-near (Ask k o) = call-near (askOn k) o (ask-near k)
-  after-near Clear = call-near clearOn [] clear-near
-  after-near (Replay o) = call-near replayOn o replay-near
+-- ---- the steps
 
-  pub after-place : (c : Call) (x : Refusal) → after l c b .answer ≡ Refused x → placeOf x ≤ 12
-  after-place c x e = subst (λ (a : Answer). spot a ≤ 12) e (after-near c)
+module _ (P : Refusal → Type 0) (S : Steps P) where
+  tell-says : (x o : List ℕ) (fs : List (List ℕ)) → Says P (tell x o fs .answer)
+  tell-says x o fs = by (leb (length x) (length o))
+    where
+      by : (t : Bool) → Says P (cond {A = Turn} t (record { answer = Done (length x); output = x ++ drop (length x) o; frames = fs })
+          (refuse OutputShort o fs) .answer)
+      by true = tt
+      by false = S .short
+
+  held-says : (t : Turn) (o : List ℕ) (fs : List (List ℕ)) → Says P (t .answer) → (a b : Bool)
+      → Says P (cond {A = Turn} a (cond b t (refuse NotHeld o fs)) (refuse NotAKind o fs) .answer)
+  held-says t o fs h true true = h
+  held-says t o fs h true false = S .held
+  held-says t o fs h false b = S .kind
+
+  put-says : (f o : List ℕ) (room : ℕ) (fs : List (List ℕ)) → Says P (putOn f o room fs .answer)
+  unfolding putOn
+  put-says f o room fs = by (ltb (slotOf f) settings) (leb (length (flat (placed f fs))) room) (decode f) (S .frame f)
+    where
+      by : (a b : Bool) (x : Reading) → ((y : Refusal) → x ≡ refuses y → P y)
+          → Says P (cond {A = Turn} a (cond b (become o (placed f fs)) (refuse NoRoom o fs)) (refuse (lacks x) o fs) .answer)
+      by true true x h = tt
+      by true false x h = S .room
+      by false b (reading k vs) h = S .kind
+      by false b (refuses x) h = h x refl
+
+  remove-says : (k : ℕ) (o : List ℕ) (room : ℕ) (fs : List (List ℕ)) → Says P (removeOn k o room fs .answer)
+  unfolding removeOn
+  remove-says k o room fs = held-says (become o (without (slotFor k) fs)) o fs tt (ltb (slotFor k) settings) (held (slotFor k) fs)
+
+  ask-says : (k : ℕ) (o : List ℕ) (room : ℕ) (fs : List (List ℕ)) → Says P (askOn k o room fs .answer)
+  unfolding askOn
+  ask-says k o room fs =
+      held-says (tell (frameOf (slotFor k) fs) o fs) o fs (tell-says (frameOf (slotFor k) fs) o fs) (ltb (slotFor k) settings) (held (slotFor k) fs)
+
+  clear-says : (o : List ℕ) (room : ℕ) (fs : List (List ℕ)) → Says P (clearOn o room fs .answer)
+  unfolding clearOn
+  clear-says o room fs = tt
+
+  replay-says : (o : List ℕ) (room : ℕ) (fs : List (List ℕ)) → Says P (replayOn o room fs .answer)
+  unfolding replayOn
+  replay-says o room fs = tell-says (reelOf fs) o fs
+
+  -- ---- the calls, where it holds of the book's own refusals too
+
+  module _ (l : Layout) (b : List ℕ) (own : (x : Refusal) → opened l b ≡ refused x → P x) (size : P BufferSize) where
+    call-says : (s : List ℕ → ℕ → List (List ℕ) → Turn) (o : List ℕ)
+        → ((o : List ℕ) (room : ℕ) (fs : List (List ℕ)) → Says P (s o room fs .answer)) → Says P (call l s o b .answer)
+    unfolding call
+    call-says s o h = by (opened l b) own
+      where
+        by : (c : Contents) → ((x : Refusal) → c ≡ refused x → P x) → Says P (onContents l s o b c .answer)
+        by (refused x) n = n x refl
+        by (holds fs) n = h o (roomOf l (length b)) fs
+
+    pub after-says : (c : Call) → Says P (after l c b .answer)
+    after-says Make = made-says P l b size
+    after-says (Put f) = call-says (putOn f) [] (put-says f)
+    after-says (Remove k) = call-says (removeOn k) [] (remove-says k)
+    after-says (Ask k o) = call-says (askOn k) o (ask-says k)
+    after-says Clear = call-says clearOn [] clear-says
+    after-says (Replay o) = call-says replayOn o replay-says
+
+-- ---- places
+
+abbrev Near : Refusal → Type 0
+Near x = placeOf x ≤ 12
+
+steps-near : Steps Near
+steps-near = record {
+  room = omega arith;
+  held = omega arith;
+  kind = omega arith;
+  short = omega arith;
+  frame = λ f x e. subst (λ (r : Reading). placeIn r ≤ 12) e (decode-place f);
+}
+
+opened-near : (l : Layout) (b : List ℕ) (x : Refusal) → opened l b ≡ refused x → placeOf x ≤ 12
+unfolding opened
+opened-near l b x e = subst near e (by (judge l b) refl)
+  where
+    near : Contents → Type 0
+    near (refused y) = placeOf y ≤ 12
+    near (holds fs) = Unit
+
+    told : (t : Bool) (fs : List (List ℕ)) → near (cond t (holds fs) (refused BothForms))
+    told true fs = tt
+    told false fs = omega arith
+
+    by : (c : Contents) → judge l b ≡ c → near (agreed c)
+    by (refused y) w = omega (arith, judge-place l b y w)
+    by (holds fs) w = told (single fs) fs
+
+pub after-place : (l : Layout) (b : List ℕ) (c : Call) (x : Refusal) → after l c b .answer ≡ Refused x → placeOf x ≤ 12
+after-place l b c x e = subst (Says Near) e (after-says Near steps-near l b (opened-near l b) (omega arith) c)

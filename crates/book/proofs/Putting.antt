@@ -1,16 +1,15 @@
 -- A put as edits of a book's bytes: a paste in place (`over-image`) or the frame behind the others (`app-image`) gives the image of the list
--- after the put; and what `put` returns (`put-..`).
+-- after the put, as a swap does (proofs/Swapping.antt); and what `put` returns (`put-..`).
 -- Assumes nothing.
 use mathlib.Core.Path.{ap, ap₂, refl, subst, sym, _∙_, _≡_}
 use mathlib.Core.Bool.{Bool, cond, false, false≢true, true}
 use mathlib.Core.List.{List, [], append-assoc, append-nil, _++_, _∷_}
 use Prim.Native.Nat.{suc, ℕ, _%_, _*_, _+_, _-_, _/_, _<_, _≤_}
-use native.Mathlib.Nat.{le-refl}
 use native.Mathlib.Omega.{arith}
 use borrow.Author.Tests.{eq-eqb, eqb-true, le-leb, le-ltb, lt-leb, lt-ltb, ne-eqb}
 use lib.Dec.{eqb}
-use lib.ListN.{drop, length, length-append, length-set, replicate, set}
-use lib.Seq.{drop-append-seam, length-paste, paste, set-append-left, take-length}
+use lib.ListN.{drop, length, length-append, length-set, replicate, set, take}
+use lib.Seq.{paste, set-append-left, take-length}
 use Rattle.refusal.specs.declared.Refusal.{Refusal}
 use Rattle.spans.specs.Spans.{written}
 use Rattle.spans.proofs.Spans.{written-fits}
@@ -22,31 +21,25 @@ use Rattle.settings.specs.Settings.{lacks, sizeOf, slotOf}
 use Rattle.settings.proofs.Settings.{slotOf-length}
 use Rattle.contents.specs.Frames.{flat, held, place}
 use Rattle.contents.specs.Contents.{Layout, header, image, offsetAt, roomOf, start, wordAt, words}
-use Rattle.contents.proofs.Shape.{Sound, place-from, place-in, place-shift}
+use Rattle.contents.proofs.Shape.{Sound, place-from, place-in}
 use Rattle.contents.proofs.Judged.{Bytes, offsets}
 use Rattle.contents.proofs.Headers.{header-length, words-cong}
-use Rattle.book.specs.Plain.{become, placed, putOn, refuse, seat, swapIn}
-use Rattle.book.specs.Edits.{appended, setWord}
+use Rattle.forms.specs.Forms.{other}
+use Rattle.book.specs.Plain.{become, placed, putOn, refuse, swapIn}
+use Rattle.book.specs.Edits.{appended, setWord, swapped}
 use Rattle.book.proofs.Known.{count-is, end-is, held-within, is-held, is-image, not-held, stay, tiling}
 use Rattle.book.proofs.Parts.{drop-replicate, length-setWord, paste-left, paste-right, setWord-left, setWord-skip, words-set}
 use Rattle.book.proofs.Calls.{Gives, Holds, accept, holds-reads}
+use Rattle.book.proofs.Placed.{placed-last, placed-over, placed-swap}
+use Rattle.book.proofs.Swapping.{swap-flat, swap-length, swap-room, swapped-image}
 
 -- ---- in place
 
 module _ (k : ℕ) (f : List ℕ) (own : slotOf f ≡ k) (len : length f ≡ sizeOf k) where
-  pub swap-length : (fs : List (List ℕ)) → length (swapIn k f fs) ≡ length fs
-  unfolding swapIn
-  swap-length [] = refl
-  swap-length (g ∷ fs) = go (swap-length fs) (eqb (slotOf g) k)
-    where
-      go : length (swapIn k f fs) ≡ length fs → (t : Bool) → length (cond t (f ∷ fs) (g ∷ swapIn k f fs)) ≡ suc (length fs)
-      go ih true = refl
-      go ih false = ap suc ih
-
-  pub swap-place : (p : ℕ) (fs : List (List ℕ)) → Sound fs → (j : ℕ) → place p (swapIn k f fs) j ≡ place p fs j
+  over-place : (p : ℕ) (fs : List (List ℕ)) → Sound fs → (j : ℕ) → place p (swapIn k f fs) j ≡ place p fs j
   unfolding swapIn place
-  swap-place p [] s j = refl
-  swap-place p (g ∷ fs) s j = go (swap-place (p + length g) fs (s .2) j) (eqb (slotOf g) k) refl
+  over-place p [] s j = refl
+  over-place p (g ∷ fs) s j = go (over-place (p + length g) fs (s .2) j) (eqb (slotOf g) k) refl
     where
       go : place (p + length g) (swapIn k f fs) j ≡ place (p + length g) fs j → (t : Bool) → eqb (slotOf g) k ≡ t
           → place p (cond t (f ∷ fs) (g ∷ swapIn k f fs)) j ≡ cond (eqb (slotOf g) j) p (place (p + length g) fs j)
@@ -55,40 +48,24 @@ module _ (k : ℕ) (f : List ℕ) (own : slotOf f ≡ k) (len : length f ≡ siz
           (len ∙ ap (λ (x : ℕ). sizeOf x) (sym (eqb-true (slotOf g) k e)) ∙ sym (slotOf-length g (s .0)))
       go ih false e = ap (λ (x : ℕ). cond (eqb (slotOf g) j) p x) ih
 
-  pub swap-flat : (fs : List (List ℕ)) → Sound fs → held k fs ≡ true → flat (swapIn k f fs) ≡ paste (flat fs) (place 0 fs k) f (length f)
-  unfolding swapIn place flat held
-  swap-flat [] s h = absurd (false≢true h)
-  swap-flat (g ∷ fs) s h = go (swap-flat fs (s .2)) (eqb (slotOf g) k) refl h
-    where
-      go : (held k fs ≡ true → flat (swapIn k f fs) ≡ paste (flat fs) (place 0 fs k) f (length f)) → (t : Bool) → eqb (slotOf g) k ≡ t
-          → cond t true (held k fs) ≡ true
-          → flat (cond t (f ∷ fs) (g ∷ swapIn k f fs)) ≡ paste (g ++ flat fs) (cond t 0 (place (0 + length g) fs k)) f (length f)
-      go ih true e q =
-          ap₂ (λ (x y : List ℕ). x ++ y) (sym (take-length f)) (sym (drop-append-seam g (flat fs)) ∙ ap (λ (n : ℕ). drop n (g ++ flat fs)) same)
-        where
-          same : length g ≡ 0 + length f
-          same = omega (arith, slotOf-length g (s .0), len, ap sizeOf (eqb-true (slotOf g) k e))
-      go ih false e q =
-          ap (λ (x : List ℕ). g ++ x) (ih q)
-          ∙ sym (paste-right g (flat fs) (place 0 fs k) f (length f))
-          ∙ ap (λ (x : ℕ). paste (g ++ flat fs) x f (length f)) (c ∙ sym (place-shift (length g) 0 fs k q))
-        where
-          c : length g + place 0 fs k ≡ place 0 fs k + length g
-          c = omega arith
+  module _ (fs : List (List ℕ)) (s : Sound fs) (h : held k fs ≡ true) where
+    over-flat : flat (swapIn k f fs) ≡ paste (flat fs) (place 0 fs k) f (length f)
+    over-flat =
+        swap-flat k f fs s h
+        ∙ sym (append-assoc (take (place 0 fs k) (flat fs)) f (drop (place 0 fs k + sizeOf k) (flat fs)))
+        ∙ ap₂ (λ (x : List ℕ) (n : ℕ). (take (place 0 fs k) (flat fs) ++ x) ++ drop (place 0 fs k + n) (flat fs)) (sym (take-length f)) (sym len)
 
-pub swap-room : (k : ℕ) (f : List ℕ) (fs : List (List ℕ)) → slotOf f ≡ k → length f ≡ sizeOf k → Sound fs → held k fs ≡ true
-    → length (flat (swapIn k f fs)) ≡ length (flat fs)
-swap-room k f fs own len s h =
-    ap length (swap-flat k f own len fs s h) ∙ length-paste (flat fs) (place 0 fs k) f (length f) (omega (arith, place-in 0 fs k s h)) (le-refl (length f))
+    pub over-room : length (flat (swapIn k f fs)) ≡ length (flat fs)
+    over-room = omega (arith, swap-room k f fs s h, len, place-in 0 fs k s h)
 
 header-swap : (l : Layout) (k : ℕ) (f : List ℕ) → slotOf f ≡ k → length f ≡ sizeOf k → (fs : List (List ℕ)) → Sound fs
     → length (flat (swapIn k f fs)) ≡ length (flat fs) → header l (swapIn k f fs) ≡ header l fs
 unfolding header
 header-swap l k f own len fs s e =
-    ap₂ (λ (c : ℕ) (r : List ℕ). l .version ∷ c ∷ r) (swap-length k f own len fs)
+    ap₂ (λ (c : ℕ) (r : List ℕ). l .version ∷ c ∷ r) (swap-length k f fs)
     (ap₂ (λ (x : ℕ) (r : List ℕ). (start (l .slots) + x) / 256 ∷ (start (l .slots) + x) % 256 ∷ r) e
     (words-cong (l .slots) 0 (place (start (l .slots)) (swapIn k f fs)) (place (start (l .slots)) fs)
-    (λ j a b. swap-place k f own len (start (l .slots)) fs s j)))
+    (λ j a b. over-place k f own len (start (l .slots)) fs s j)))
 
 pub over-image : (l : Layout) (n k : ℕ) (f : List ℕ) (fs : List (List ℕ)) → slotOf f ≡ k → length f ≡ sizeOf k → Sound fs → held k fs ≡ true
     → paste (image l n fs) (place (start (l .slots)) fs k) f (length f) ≡ image l n (swapIn k f fs)
@@ -110,17 +87,21 @@ over-image l n k f fs own len s h =
     room = omega (arith, place-in 0 fs k s h)
 
     body : flat (swapIn k f fs) ≡ paste (flat fs) (place 0 fs k) f (length f)
-    body = swap-flat k f own len fs s h
+    body = over-flat k f own len fs s h
 
     same : length (flat (swapIn k f fs)) ≡ length (flat fs)
-    same = ap length body ∙ length-paste (flat fs) (place 0 fs k) f (length f) room (le-refl (length f))
+    same = over-room k f own len fs s h
 
 -- ---- at the end
 
-pub flat-append : (fs : List (List ℕ)) (f : List ℕ) → flat (fs ++ (f ∷ [])) ≡ flat fs ++ f
+pub flat-split : (xs ys : List (List ℕ)) → flat (xs ++ ys) ≡ flat xs ++ flat ys
 unfolding flat
-flat-append [] f = append-nil f
-flat-append (g ∷ fs) f = ap (λ (r : List ℕ). g ++ r) (flat-append fs f) ∙ sym (append-assoc g (flat fs) f)
+flat-split [] ys = refl
+flat-split (x ∷ xs) ys = ap (λ (r : List ℕ). x ++ r) (flat-split xs ys) ∙ sym (append-assoc x (flat xs) (flat ys))
+
+flat-append : (fs : List (List ℕ)) (f : List ℕ) → flat (fs ++ (f ∷ [])) ≡ flat fs ++ f
+unfolding flat
+flat-append fs f = flat-split fs (f ∷ []) ∙ ap (λ (r : List ℕ). flat fs ++ r) (append-nil f)
 
 pub place-append : (p : ℕ) (fs : List (List ℕ)) (f : List ℕ) → held (slotOf f) fs ≡ false → place p (fs ++ (f ∷ [])) (slotOf f) ≡ p + length (flat fs)
 unfolding place held flat
@@ -232,18 +213,15 @@ module _ (f o : List ℕ) (n : ℕ) (fs : List (List ℕ)) where
   unfolding putOn
   putOn-bad a = rw (le-ltb _ _ a)
 
-  module _ (a : slotOf f < settings) where
-    pub putOn-over : held (slotOf f) fs ≡ true → length (flat (swapIn (slotOf f) f fs)) ≤ n → putOn f o n fs ≡ become o (swapIn (slotOf f) f fs)
-    unfolding putOn placed seat
-    putOn-over h r = rw (lt-ltb _ _ a, h, le-leb _ _ r)
+  -- the list after the put fits the room, or it does not
+  module _ (a : slotOf f < settings) (gs : List (List ℕ)) (e : placed f fs ≡ gs) where
+    pub putOn-fits : length (flat gs) ≤ n → putOn f o n fs ≡ become o gs
+    unfolding putOn
+    putOn-fits r = rw (lt-ltb _ _ a, e, le-leb _ _ r)
 
-    pub putOn-app : held (slotOf f) fs ≡ false → length (flat (fs ++ (f ∷ []))) ≤ n → putOn f o n fs ≡ become o (fs ++ (f ∷ []))
-    unfolding putOn placed seat
-    putOn-app h r = rw (lt-ltb _ _ a, h, le-leb _ _ r)
-
-    pub putOn-full : held (slotOf f) fs ≡ false → n < length (flat (fs ++ (f ∷ []))) → putOn f o n fs ≡ refuse NoRoom o fs
-    unfolding putOn placed seat
-    putOn-full h r = rw (lt-ltb _ _ a, h, lt-leb _ _ r)
+    pub putOn-full : n < length (flat gs) → putOn f o n fs ≡ refuse NoRoom o fs
+    unfolding putOn
+    putOn-full r = rw (lt-ltb _ _ a, e, lt-leb _ _ r)
 
 module _ (l : Layout) (b : List ℕ) (B : Bytes b) (h : Holds l b) (f : List ℕ) (k : ℕ) (own : k ≡ slotOf f) where
   pub put-bad : settings ≤ k → (x : Refusal) → lacks (decode f) ≡ x → Gives l (putOn f) [] b (Refused x) [] b
@@ -261,13 +239,12 @@ module _ (l : Layout) (b : List ℕ) (B : Bytes b) (h : Holds l b) (f : List ℕ
     pub put-over : (y : List ℕ) → (at ≡ 0 → ⊥) → y ≡ written b at f → Gives l (putOn f) [] b (Done 0) [] y
     put-over y n e =
         accept l (putOn f) [] b h (become [] (swapIn (slotOf f) f (h .frames))) y
-        (putOn-over f [] (roomOf l (length b)) (h .frames) (omega arith) hf
+        (putOn-fits f [] (roomOf l (length b)) (h .frames) (omega arith) _ (placed-over f (h .frames) hf)
         (omega (
           arith,
-          swap-room (slotOf f) f (h .frames) refl (slotOf-length f (omega arith)) (tiling l b B h .sound) hf,
+          over-room (slotOf f) f refl (slotOf-length f (omega arith)) (h .frames) (tiling l b B h .sound) hf,
           end-is l b B h,
-          holds-reads l b
-              h .high,
+          holds-reads l b h .high,
         )))
         (e
         ∙ written-fits b at f (put-room n)
@@ -281,32 +258,89 @@ module _ (l : Layout) (b : List ℕ) (B : Bytes b) (h : Holds l b) (f : List ℕ
         hf : held (slotOf f) (h .frames) ≡ true
         hf = subst (λ (x : ℕ). held x (h .frames) ≡ true) own hk
 
-    module _ (z : at ≡ 0) (e : ℕ) (q : e ≡ wordAt b 2) where
-      fresh : held (slotOf f) (h .frames) ≡ false
-      fresh = rw (← own) (not-held l b B h k at am o z)
+-- a frame f, of a slot k that a book's bytes b do not hold; its other form has the slot t with the offset at, and the frames end at e
+pub record New (l : Layout) (b f : List ℕ) (k t at e : ℕ) : Type 0 where
+  pub own : k ≡ slotOf f
+  pub small : k < settings
+  pub among : k < l .slots
+  pub absent : 0 ≡ offsetAt b k
+  pub twin : t ≡ other k
+  pub twin-among : t < l .slots
+  pub stands : at ≡ offsetAt b t
+  pub ends : e ≡ wordAt b 2
 
-      more : length (flat (h .frames ++ (f ∷ []))) ≡ length (flat (h .frames)) + length f
-      more = ap length (flat-append (h .frames) f) ∙ length-append (flat (h .frames)) f
+module _ (l : Layout) (b : List ℕ) (B : Bytes b) (h : Holds l b) (f : List ℕ) (k t at e : ℕ) (N : New l b f k t at e) where
+  twin-is : t ≡ other (slotOf f)
+  twin-is = N .twin ∙ ap other (N .own)
 
-      pub put-full : length b - e < length f → Gives l (putOn f) [] b (Refused NoRoom) [] b
-      put-full r = stay l b B h (putOn f) [] (Refused NoRoom) [] (putOn-full f [] (roomOf l (length b)) (h .frames) (omega arith) fresh
-          (omega (arith, more, end-is l b B h, holds-reads l b h .high)))
+  fresh : held (slotOf f) (h .frames) ≡ false
+  fresh = ap (λ (x : ℕ). held x (h .frames)) (sym (N .own)) ∙ not-held l b B h k 0 (N .among) (N .absent) refl
 
-      pub put-app : (y : List ℕ) → length f ≤ length b - e
-          → y ≡ appended b f k e
-          → Gives l (putOn f) [] b (Done 0) [] y
-      unfolding appended
-      put-app y r p =
-          accept l (putOn f) [] b h (become [] (h .frames ++ (f ∷ []))) y
-          (putOn-app f [] (roomOf l (length b)) (h .frames) (omega arith) fresh (omega (arith, more, room)))
-          (p
-          ∙ rw (ee, count-is l b B h, own) (ap (λ (x : List ℕ). setWord
-          (setWord (set (paste x (start (l .slots) + length (flat (h .frames))) f (length f)) 1 (length (h .frames) + 1)) 2
-          (start (l .slots) + length (flat (h .frames)) + length f)) (4 + 2 * slotOf f) (start (l .slots) + length (flat (h .frames)))) (is-image l b B h))
-          ∙ app-image l (length b) f (h .frames) fresh (omega arith) room)
-        where
-          ee : e ≡ start (l .slots) + length (flat (h .frames))
-          ee = q ∙ end-is l b B h
+  -- the other form is not held either: the frame goes behind the others
+  module _ (z : at ≡ 0) where
+    behind : placed f (h .frames) ≡ h .frames ++ (f ∷ [])
+    behind = placed-last f (h .frames) fresh (ap (λ (x : ℕ). held x (h .frames)) (sym twin-is) ∙ not-held l b B h t at (N .twin-among) (N .stands) z)
 
-          room : start (l .slots) + length (flat (h .frames)) + length f ≤ length b
-          room = omega (arith, end-is l b B h, holds-reads l b h .high)
+    more : length (flat (h .frames ++ (f ∷ []))) ≡ length (flat (h .frames)) + length f
+    more = ap length (flat-append (h .frames) f) ∙ length-append (flat (h .frames)) f
+
+    pub put-full : length b - e < length f → Gives l (putOn f) [] b (Refused NoRoom) [] b
+    put-full r = stay l b B h (putOn f) [] (Refused NoRoom) []
+        (putOn-full f [] (roomOf l (length b)) (h .frames) (omega (arith, N .own, N .small)) _ behind
+        (omega (arith, more, N .ends, end-is l b B h, holds-reads l b h .high)))
+
+    pub put-app : (y : List ℕ) → length f ≤ length b - e → y ≡ appended b f k e → Gives l (putOn f) [] b (Done 0) [] y
+    unfolding appended
+    put-app y r p =
+        accept l (putOn f) [] b h (become [] (h .frames ++ (f ∷ []))) y
+        (putOn-fits f [] (roomOf l (length b)) (h .frames) (omega (arith, N .own, N .small)) _ behind (omega (arith, more, room)))
+        (p
+        ∙ rw (ee, count-is l b B h, N .own) (ap (λ (x : List ℕ). setWord
+        (setWord (set (paste x (start (l .slots) + length (flat (h .frames))) f (length f)) 1 (length (h .frames) + 1)) 2
+        (start (l .slots) + length (flat (h .frames)) + length f)) (4 + 2 * slotOf f) (start (l .slots) + length (flat (h .frames)))) (is-image l b B h))
+        ∙ app-image l (length b) f (h .frames) fresh (omega (arith, N .own, N .among)) room)
+      where
+        ee : e ≡ start (l .slots) + length (flat (h .frames))
+        ee = N .ends ∙ end-is l b B h
+
+        room : start (l .slots) + length (flat (h .frames)) + length f ≤ length b
+        room = omega (arith, N .ends, end-is l b B h, holds-reads l b h .high)
+
+  -- it is held: the frame takes its place
+  module _ (n : at ≡ 0 → ⊥) where
+    twin-held : held t (h .frames) ≡ true
+    twin-held = is-held l b B h t at (N .twin-among) (N .stands) n
+
+    instead : placed f (h .frames) ≡ swapIn (other (slotOf f)) f (h .frames)
+    instead = placed-swap f (h .frames) fresh (ap (λ (x : ℕ). held x (h .frames)) (sym twin-is) ∙ twin-held)
+
+    twin-in : sizeOf t ≤ length (flat (h .frames))
+    twin-in = omega (arith, place-in 0 (h .frames) t (tiling l b B h .sound) twin-held)
+
+    pub twin-size : sizeOf t ≤ e
+    twin-size = omega (arith, twin-in, N .ends, end-is l b B h)
+
+    after : length (flat (swapIn t f (h .frames))) ≡ length (flat (h .frames)) - sizeOf t + length f
+    after = swap-room t f (h .frames) (tiling l b B h .sound) twin-held
+
+    same : swapIn t f (h .frames) ≡ swapIn (other (slotOf f)) f (h .frames)
+    same = ap (λ (i : ℕ). swapIn i f (h .frames)) twin-is
+
+    pub put-tight : length b - (e - sizeOf t) < length f → Gives l (putOn f) [] b (Refused NoRoom) [] b
+    put-tight r =
+        stay l b B h (putOn f) [] (Refused NoRoom) []
+        (putOn-full f [] (roomOf l (length b)) (h .frames) (omega (arith, N .own, N .small)) _ (instead ∙ sym same)
+        (omega (arith, r, N .ends, after, twin-in, end-is l b B h, holds-reads l b h .high)))
+
+    pub put-swap : (y : List ℕ) → length f ≤ length b - (e - sizeOf t) → y ≡ swapped (l .slots) b at (sizeOf t) f k e → Gives l (putOn f) [] b (Done 0) [] y
+    put-swap y r p =
+        accept l (putOn f) [] b h (become [] (swapIn t f (h .frames))) y
+        (putOn-fits f [] (roomOf l (length b)) (h .frames) (omega (arith, N .own, N .small)) _ (instead ∙ sym same)
+        (omega (arith, r, N .ends, after, twin-in, end-is l b B h, holds-reads l b h .high)))
+        (p
+        ∙ ap (λ (i : ℕ). swapped (l .slots) b i (sizeOf t) f k e) (N .stands ∙ offsets l b (h .frames) (holds-reads l b h) t (N .twin-among))
+        ∙ ap₂ (λ (s i : ℕ). swapped (l .slots) b (place (start (l .slots)) (h .frames) t) (sizeOf t) f s i) (N .own) (N .ends ∙ end-is l b B h)
+        ∙ ap (λ (x : List ℕ). swapped (l .slots) x (place (start (l .slots)) (h .frames) t) (sizeOf t) f (slotOf f)
+        (start (l .slots) + length (flat (h .frames)))) (is-image l b B h)
+        ∙ swapped-image l (length b) t f (h .frames) (tiling l b B h .sound) fresh twin-held (omega (arith, N .own, N .among))
+        (omega (arith, end-is l b B h, holds-reads l b h .high)) (omega (arith, r, N .ends, after, twin-in, end-is l b B h, holds-reads l b h .high)))

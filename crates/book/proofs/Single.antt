@@ -1,10 +1,11 @@
--- What a book's list can be at the most: one frame for each kind (`history-single`), and every setting's frame, which takes 246 bytes
--- with the book's own (`all-settings`, `full-book`, `history-most`).
+-- What a book's list can be, whatever the calls were: one frame for each kind (`history-single`) and one form of each setting
+-- (`history-forms`); so no call of ours ever meets a 16 (`history-opens`), a book of 231 bytes holds all (`history-most`, `history-fits`), and
+-- 195 bytes take any replay (`replay-most`).
 -- Assumes nothing.
-use mathlib.Core.Path.{ap, ap₂, refl, sym, _∙_, _≡_}
+use mathlib.Core.Path.{ap, refl, sym, _∙_, _≡_}
 use mathlib.Core.Bool.{Bool, cond, false, false≢true, true}
 use mathlib.Core.List.{List, [], _∷_}
-use Prim.Native.Nat.{suc, zero, ℕ, _+_, _<_, _≤_}
+use Prim.Native.Nat.{ℕ, _+_, _-_, _<_, _≤_}
 use native.Mathlib.Nat.{le-refl}
 use native.Mathlib.Omega.{arith}
 use borrow.Author.Tests.{eqb-true, eq-eqb}
@@ -12,14 +13,21 @@ use lib.Dec.{eqb}
 use lib.ListN.{length}
 use Rattle.decoder.specs.Decoding.{Reading, decode, reading, refuses}
 use Rattle.table.specs.Table.{settings}
-use Rattle.settings.specs.Settings.{lengths, sizeOf, slotFor, slotIn, slotOf}
+use Rattle.settings.specs.Settings.{slotFor, slotIn, slotOf}
 use Rattle.settings.proofs.Settings.{slot-zero}
 use Rattle.contents.specs.Frames.{flat, held}
-use Rattle.contents.specs.Contents.{start}
-use Rattle.contents.proofs.Shape.{Sound, count-held, count-same, countFrom, sound-within, sum-held, sumFrom, sumOf}
-use Rattle.book.specs.Book.{ours}
-use Rattle.book.specs.History.{Call, onList, turn}
-use Rattle.book.proofs.Kept.{empty-kept, turns-kept}
+use Rattle.contents.specs.Contents.{Layout, holds, start}
+use Rattle.contents.proofs.Shape.{Sound}
+use Rattle.reel.specs.Reel.{reelOf}
+use Rattle.forms.proofs.Forms.{OneForm}
+use Rattle.forms.proofs.Most.{most-bytes, most-frames}
+use Rattle.book.specs.Plain.{become, placed, putOn}
+use Rattle.book.specs.Book.{opened, ours}
+use Rattle.book.specs.History.{BytesRun, Call, Make, after, onBytes, onList, turn}
+use Rattle.book.proofs.Kept.{Kept, empty-kept, opened-kept, turns-kept}
+use Rattle.book.proofs.History.{history-ours, opened-image}
+use Rattle.book.proofs.Laws.{setting-fits}
+use Rattle.book.proofs.Telling.{reel-length}
 
 -- ---- one frame for each kind
 
@@ -64,57 +72,43 @@ sound-single k (f ∷ fs) S = go (sound-single k fs (S .2)) (eqb (kindIn (decode
         omega (arith, none-kind k fs (ap (λ (s : ℕ). held s fs) (sym own) ∙ S .1))
     go ih false e = omega arith
 
--- ---- all settings
-
-abbrev allBytes : ℕ
-allBytes = sumFrom settings sizeOf 0
-
--- ALL SETTINGS TAKE 246 BYTES
-pub all-settings : start (ours .slots) + sumFrom settings sizeOf 0 ≡ 246
-unfolding sumFrom sizeOf lengths
-all-settings = refl
-
-sum-le : (l k : ℕ) (q : ℕ → Bool) (w : ℕ → ℕ) → sumOf l q w k ≤ sumFrom l w k
-unfolding sumFrom
-sum-le zero k q w = le-refl 0
-sum-le (suc l) k q w = go (sum-le l (k + 1) q w) (q k)
-  where
-    go : sumOf l q w (k + 1) ≤ sumFrom l w (k + 1) → (t : Bool) → cond t (w k) 0 + sumOf l q w (k + 1) ≤ w k + sumFrom l w (k + 1)
-    go ih true = omega arith
-    go ih false = omega arith
-
-sum-all : (l k : ℕ) (q : ℕ → Bool) (w : ℕ → ℕ) → ((j : ℕ) → k ≤ j → j < k + l → q j ≡ true) → sumOf l q w k ≡ sumFrom l w k
-unfolding sumFrom
-sum-all zero k q w h = refl
-sum-all (suc l) k q w h =
-    ap₂ (λ (t : Bool) (n : ℕ). cond t (w k) 0 + n) (h k (le-refl k) (omega arith)) (sum-all l (k + 1) q w (λ j a b. h j (omega arith) (omega arith)))
-
--- no list takes more
-pub sound-most : (fs : List (List ℕ)) → Sound fs → start (ours .slots) + length (flat fs) ≤ 246
-sound-most fs S = omega (arith, all-settings, sum-held fs S, sum-le settings 0 (λ j. held j fs) sizeOf)
-
-all-count : (l k : ℕ) → countFrom l (λ j. true) k ≡ l
-unfolding sumFrom
-all-count zero k = refl
-all-count (suc l) k = omega (arith, all-count l (k + 1))
-
--- and one with a frame of each setting takes just that
-pub full-book : (fs : List (List ℕ)) → Sound fs → length fs ≡ settings → start (ours .slots) + length (flat fs) ≡ 246
-full-book fs S e = omega (arith, all-settings, sum-held fs S, sum-all settings 0 (λ j. held j fs) sizeOf (λ j a b. every j (omega arith) (held j fs) refl))
-  where
-    same : countFrom settings (λ j. held j fs) 0 ≡ countFrom settings (λ j. true) 0
-    same = count-held settings fs S (sound-within settings (le-refl settings) fs S) ∙ e ∙ sym (all-count settings 0)
-
-    every : (j : ℕ) → j < settings → (t : Bool) → held j fs ≡ t → held j fs ≡ true
-    every j a true w = w
-    every j a false w =
-        absurd (false≢true (sym (count-same settings 0 (λ i. held i fs) (λ i. true) (λ i x. refl) same j (omega arith) (omega arith) w)))
-
 -- ---- whatever the calls were
 
-module _ (m : ℕ) (big : settings ≤ m) (n : ℕ) (cs : List Call) where
-  pub history-single : (k : ℕ) → ofKind k (onList (turn n) cs [] .frames) ≤ 1
-  history-single k = sound-single k (onList (turn n) cs [] .frames) (turns-kept m big n cs [] (empty-kept m n) .sound)
+module _ (n : ℕ) (cs : List Call) where
+  kept : Kept settings n (onList (turn n) cs [] .frames)
+  kept = turns-kept settings (le-refl settings) n cs [] (empty-kept settings n)
 
-  pub history-most : start (ours .slots) + length (flat (onList (turn n) cs [] .frames)) ≤ 246
-  history-most = sound-most (onList (turn n) cs [] .frames) (turns-kept m big n cs [] (empty-kept m n) .sound)
+  pub history-single : (k : ℕ) → ofKind k (onList (turn n) cs [] .frames) ≤ 1
+  history-single k = sound-single k (onList (turn n) cs [] .frames) (kept .sound)
+
+  -- A FRESH BOOK NEVER COMES TO HOLD BOTH FORMS of a setting
+  pub history-forms : OneForm (onList (turn n) cs [] .frames)
+  history-forms = kept .forms
+
+  -- nor more than 231 bytes, 62 of them its own, and 26 frames
+  pub history-most : start (ours .slots) + length (flat (onList (turn n) cs [] .frames)) ≤ 231
+  history-most = omega (arith, most-bytes (onList (turn n) cs [] .frames) (kept .sound) (kept .forms))
+
+  pub history-frames : length (onList (turn n) cs [] .frames) ≤ 26
+  history-frames = most-frames (onList (turn n) cs [] .frames) (kept .sound) (kept .forms)
+
+  -- SO A BOOK OF 231 BYTES REFUSES NO SETTING FOR ROOM, in whichever order the kinds are put
+  pub history-fits : 169 ≤ n → (f o : List ℕ) → slotOf f < settings
+      → putOn f o n (onList (turn n) cs [] .frames) ≡ become o (placed f (onList (turn n) cs [] .frames))
+  history-fits r f o a = setting-fits f o n (onList (turn n) cs [] .frames) a (kept .sound) (kept .forms) r
+
+-- and none of our calls ever meets a 16: a book that was made and then called in any way opens
+pub history-opens : (b : List ℕ) → 62 ≤ length b → length b ≤ 4096 → (cs : List Call)
+    → opened ours (onBytes (after ours) (Make ∷ cs) b .bytes) ≡ holds (onList (turn (length b - 62)) (Make ∷ cs) [] .frames)
+history-opens b low high cs =
+    ap (λ (r : BytesRun). opened ours (r .bytes)) (history-ours b low high cs)
+    ∙ opened-image ours (length b) low high (onList (turn (length b - 62)) (Make ∷ cs) [] .frames)
+    (turns-kept (ours .slots) (omega arith) (length b - 62) (Make ∷ cs) [] (empty-kept (ours .slots) (length b - 62)))
+
+-- ---- the replay
+
+-- NO REPLAY IS LONGER THAN 195 BYTES, whatever book it is of
+pub replay-most : (l : Layout) (b : List ℕ) (fs : List (List ℕ)) → opened l b ≡ holds fs → length (reelOf fs) ≤ 195
+replay-most l b fs e =
+    let k = opened-kept l b fs e in
+    omega (arith, reel-length fs, most-bytes fs (k .sound) (k .forms), most-frames fs (k .sound) (k .forms))

@@ -6,8 +6,9 @@ use mathlib.Core.Bool.{cond}
 use mathlib.Core.List.{List, []}
 use lib.Dec.{leb}
 use lib.ListN.{length}
-use Rattle.refusal.specs.declared.Refusal.the-variants.{BufferSize}
-use Rattle.contents.specs.Contents.{Contents, Layout, holds, image, judge, layout, longest, refused, roomOf, start}
+use Rattle.refusal.specs.declared.Refusal.the-variants.{BothForms, BufferSize}
+use Rattle.contents.specs.Contents.{Contents, Layout, given, holds, image, judge, layout, longest, refused, roomOf, start}
+use Rattle.forms.specs.Forms.{single}
 use Rattle.book.specs.Plain.{Turn}
 use Rattle.book.specs.declared.Answer.{Answer}
 use Rattle.book.specs.declared.Answer.the-variants.{Done, Refused}
@@ -16,9 +17,14 @@ use Rattle.book.specs.declared.Answer.the-variants.{Done, Refused}
 abbrev pub ours : Layout
 ours = layout 1 29
 
+-- Well-formed bytes that hold a setting in both its forms are refused for that.
+abbrev pub agreed : Contents → Contents
+agreed (refused x) = refused x
+agreed (holds fs) = given (single fs) BothForms (holds fs)
+
 -- A book as the calls find it: every refusal of a whole book stands here, and nowhere else.
 unfoldable pub opened : Layout → List ℕ → Contents
-opened l b = judge l b
+opened l b = agreed (judge l b)
 
 abbrev pub verdict : Contents → Answer
 verdict (refused x) = Refused x

@@ -43,6 +43,10 @@ refitted m b at old new e = setWord (moved (remap (shiftedAt at old new) m b 0) 
 unfoldable pub takenOut : ℕ → List ℕ → ℕ → ℕ → ℕ → List ℕ
 takenOut m b at len e = set (refitted m b at len 0 e) 1 (getD b 1 0 - 1)
 
+-- the frame f of the slot s where the old bytes at `at` stood
+unfoldable pub swapped : ℕ → List ℕ → ℕ → ℕ → List ℕ → ℕ → ℕ → List ℕ
+swapped m b at old f s e = setWord (paste (refitted m b at old (length f) e) at f (length f)) (4 + 2 * s) at
+
 -- c frames fill the bytes from p to e
 pub record Tiles (m c : ℕ) (b : List ℕ) (p e : ℕ) : Type 0 where
   pub frames : List (List ℕ)

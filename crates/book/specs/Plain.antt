@@ -17,6 +17,7 @@ use Rattle.book.specs.declared.Answer.{Answer}
 use Rattle.book.specs.declared.Answer.the-variants.{Done, Refused}
 use Rattle.table.specs.Table.{settings}
 use Rattle.settings.specs.Settings.{lacks, slotFor, slotOf}
+use Rattle.forms.specs.Forms.{other}
 
 pub record Turn : Type 0 where
   pub answer : Answer
@@ -52,11 +53,11 @@ unfoldable pub without : ℕ → List (List ℕ) → List (List ℕ)
 without s [] = []
 without s (f ∷ fs) = cond (eqb (slotOf f) s) fs (f ∷ without s fs)
 
--- the slot whose place a frame of the slot s takes
+-- the slot whose place a frame of the slot s takes: its own if that is held, and else its other form's
 unfoldable pub seat : ℕ → List (List ℕ) → ℕ
-seat s fs = s
+seat s fs = cond (held s fs) s (other s)
 
--- A setting that is held is replaced where it stands; one that is not, though it may have been earlier, comes last.
+-- A setting that is held, in either form, is replaced where it stands; one that is not, though it may have been earlier, comes last.
 unfoldable pub placed : List ℕ → List (List ℕ) → List (List ℕ)
 placed f fs = cond (held (seat (slotOf f) fs) fs) (swapIn (seat (slotOf f) fs) f fs) (fs ++ (f ∷ []))
 

@@ -8,10 +8,10 @@ ghost use lib.ListN.{length, getD, take, drop, set};
 ghost use lib.Seq.{paste};
 ghost use Rattle.table.specs.Table.{settings};
 ghost use Rattle.settings.specs.Settings.{slotOf};
-ghost use Rattle.contents.specs.Contents.{image, layout, longest, start};
+ghost use Rattle.contents.specs.Contents.{image, layout, longest, offsetAt, start};
 ghost use Rattle.book.specs.Plain.{declinedOf};
 ghost use Rattle.book.specs.Book.{Permits, Tells, opened, ours, verdict};
-ghost use Rattle.book.specs.Edits.{setWord, appended, shiftedAt, Low, remap, moved, refitted, takenOut, Tiles, reelFrom};
+ghost use Rattle.book.specs.Edits.{setWord, appended, shiftedAt, Low, remap, moved, refitted, swapped, takenOut, Tiles, reelFrom};
 ghost use Rattle.book.specs.History.{Make, Put, Remove, Ask, Clear, Replay, after};
 use contents::Verdict;
 use refusal::Refusal;
@@ -45,7 +45,12 @@ pub fn ready(book: &[u8]) -> Answer
     ensures { λ r. ⌜ r ≡ verdict (opened ours (now (book .entry))) ⌝ }
 {
     match contents::check(book, VERSION, SLOTS) {
-        Verdict::WellFormed => Answer::Done(0),
+        Verdict::WellFormed => {
+            if forms::both_forms(book) {
+                return Answer::Refused(Refusal::BothForms);
+            }
+            Answer::Done(0)
+        }
         Verdict::Refused(why) => Answer::Refused(why),
     }
 }
@@ -93,7 +98,7 @@ fn append(b: &mut [u8], frame: &[u8], slot: usize, e: usize)
     put_word(b, 4 + 2 * slot, e);
 }
 
-// An offset, once the old bytes at `at` are new ones: those of its own slot are gone.
+// An offset, once the old bytes at `at` are new ones: 0 for the slot whose bytes they were.
 fn shifted(at: usize, old: usize, new: usize, o: usize) -> usize
     requires { ⌜ (old ≤ at) × (o ≤ longest) × (new ≤ longest) ⌝ }
     ensures { λ r. ⌜ (r ≡ shiftedAt at old new o) × (r < 65536) ⌝ }
@@ -119,19 +124,24 @@ fn shift_offsets(b: &mut [u8], slots: usize, at: usize, old: usize, new: usize)
     }
 }
 
-// What stands behind the old bytes at `at`, up to e, moves down to behind the new ones, and zeros take the bytes that it leaves.
+// What stands behind the old bytes at `at`, up to e, moves down or up to behind the new ones, and zeros take the bytes that it leaves.
 fn move_rest(b: &mut [u8], at: usize, old: usize, new: usize, e: usize)
-    requires { ⌜ (at + old ≤ e) × (e ≤ length (now b)) × (new ≤ old) ⌝ }
+    requires { ⌜ (at + old ≤ e) × (e ≤ length (now b)) × (length (now b) ≤ longest) × (e - old + new ≤ length (now b)) ⌝ }
     ensures { λ _. ⌜ now (b .exit) ≡ moved (now (b .entry)) at old new e ⌝ }
 {
     let m = e - (at + old);
-    spans::slide(b, at + new, old - new, m);
-    spans::zero(b, e - old + new, old - new);
+    if new < old {
+        spans::slide(b, at + new, old - new, m);
+        spans::zero(b, e - old + new, old - new);
+        return;
+    }
+    spans::slide_up(b, at + old, new - old, m);
 }
 
 // Room for new bytes where the old ones at `at` stood, in a book whose frames end at e.
 fn refit(b: &mut [u8], slots: usize, at: usize, old: usize, new: usize, e: usize)
-    requires { ⌜ (start slots ≤ at) × (old ≤ at) × (at + old ≤ e) × (e ≤ length (now b)) × (length (now b) ≤ longest) × (new ≤ old) × Low slots (now b) ⌝ }
+    requires { ⌜ (start slots ≤ at) × (old ≤ at) × (at + old ≤ e) × (e ≤ length (now b)) × (length (now b) ≤ longest) × (e - old + new ≤ length (now b))
+        × Low slots (now b) ⌝ }
     ensures { λ _. ⌜ now (b .exit) ≡ refitted slots (now (b .entry)) at old new e ⌝ }
 {
     shift_offsets(b, slots, at, old, new);
@@ -148,6 +158,17 @@ fn take_out(b: &mut [u8], slots: usize, at: usize, len: usize, e: usize)
     let c = byte_to_usize(b[1]);
     refit(b, slots, at, len, 0, e);
     b[1] = (c - 1) as u8;
+}
+
+// A frame of a slot where the old bytes at `at` stood, in a book whose frames end at e.
+fn swap(b: &mut [u8], slots: usize, at: usize, old: usize, frame: &[u8], slot: usize, e: usize)
+    requires { ⌜ (start slots ≤ at) × (old ≤ at) × (at + old ≤ e) × (e ≤ length (now b)) × (length (now b) ≤ longest)
+        × (e - old + length (now frame) ≤ length (now b)) × (slot < slots) × Low slots (now b) ⌝ }
+    ensures { λ _. ⌜ now (b .exit) ≡ swapped slots (now (b .entry)) at old (now (frame .entry)) slot e ⌝ }
+{
+    refit(b, slots, at, old, frame.len(), e);
+    spans::write(b, at, frame);
+    put_word(b, 4 + 2 * slot, at);
 }
 
 // ---- the reel
@@ -194,7 +215,7 @@ pub fn make(book: &mut [u8]) -> Answer
     Answer::Done(0)
 }
 
-// A setting's frame, in the place of the one that is held, or behind all others.
+// A setting's frame, in the place of the one that is held in either form, or behind all others.
 pub fn put(book: &mut [u8], frame: &[u8]) -> Answer
     ensures { λ r. ⌜ Permits (after ours (Put (now (frame .entry))) (now (book .entry))) r (now (book .exit)) ⌝ }
 {
@@ -214,7 +235,7 @@ pub fn put(book: &mut [u8], frame: &[u8]) -> Answer
     declined(answer)
 }
 
-// A put into a sound book, of a frame that is a setting's: the length of a slot's frames is one, so an overwrite needs no room.
+// A put into a sound book, of a frame that is a setting's: a slot's frames are all of one length, so an overwrite needs no room.
 fn put_setting(book: &mut [u8], frame: &[u8], slot: usize) -> Answer
     requires { ⌜ (Answer.Done 0 ≡ verdict (opened ours (now book))) × (slot ≡ slotOf (now frame)) × (slot < settings) ⌝ }
     ensures { λ r. ⌜ Permits (after ours (Put (now (frame .entry))) (now (book .entry))) r (now (book .exit)) ⌝ }
@@ -224,7 +245,25 @@ fn put_setting(book: &mut [u8], frame: &[u8], slot: usize) -> Answer
         spans::write(book, at, frame);
         return Answer::Done(0);
     }
+    put_new(book, frame, slot)
+}
+
+// A put of a form that is not held: where its other form stands, or behind all others. Room is judged on the frames after the put.
+fn put_new(book: &mut [u8], frame: &[u8], slot: usize) -> Answer
+    requires { ⌜ (Answer.Done 0 ≡ verdict (opened ours (now book))) × (slot ≡ slotOf (now frame)) × (slot < settings) × (0 ≡ offsetAt (now book) slot) ⌝ }
+    ensures { λ r. ⌜ Permits (after ours (Put (now (frame .entry))) (now (book .entry))) r (now (book .exit)) ⌝ }
+{
     let e = contents::word(book, 2);
+    let twin = forms::other_form(slot);
+    let at = contents::offset(book, twin);
+    if at != 0 {
+        let old = size_of(twin);
+        if frame.len() <= book.len() - (e - old) {
+            swap(book, SLOTS, at, old, frame, slot, e);
+            return Answer::Done(0);
+        }
+        return Answer::Refused(Refusal::NoRoom);
+    }
     if frame.len() <= book.len() - e {
         append(book, frame, slot, e);
         return Answer::Done(0);

@@ -1,7 +1,7 @@
 -- A book's bytes: the frames that are read in them (`judge`), and the bytes of a list of frames (`image`), for any layout (REFERENCE, "Book").
 -- Assumes nothing.
 use Prim.Native.Nat.{ℕ, zero, suc, _+_, _-_, _*_, _/_, _%_}
-use mathlib.Core.Bool.{Bool, true, false, cond}
+use mathlib.Core.Bool.{Bool, true, false, cond, not}
 use mathlib.Core.List.{List, [], _∷_, _++_}
 use lib.Dec.{eqb, leb, ltb}
 use lib.ListN.{length, take, drop, getD, replicate}
@@ -44,6 +44,10 @@ wordAt b i = getD b i 0 * 256 + getD b (i + 1) 0
 unfoldable pub offsetAt : List ℕ → ℕ → ℕ
 unfolding wordAt
 offsetAt b s = wordAt b (4 + 2 * s)
+
+-- whether the header has an offset for a slot
+abbrev pub presentAt : List ℕ → ℕ → Bool
+presentAt b s = not (eqb (offsetAt b s) 0)
 
 -- the first of the n slots from s on whose offset is p, or s + n
 unfoldable pub slotFrom : ℕ → List ℕ → ℕ → ℕ → ℕ

@@ -7,7 +7,7 @@ use lib.Dec.{eqb}
 use lib.ListN.{length}
 use Rattle.settings.specs.Settings.{slotOf}
 
--- whether a slot's setting is held
+-- whether a frame of the slot is held
 unfoldable pub held : ℕ → List (List ℕ) → Bool
 held s [] = false
 held s (f ∷ fs) = cond (eqb (slotOf f) s) true (held s fs)

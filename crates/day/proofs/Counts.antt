@@ -19,9 +19,9 @@ use borrow.Author.Tests.{not-true}
 use Rattle.table.specs.Table.{settings}
 use Rattle.settings.specs.Settings.{lacks, slotFor, slotIn, slotOf}
 use Rattle.refusal.specs.declared.Refusal.{Refusal}
-use Rattle.refusal.specs.declared.Refusal.the-variants.{ShortFrame, UnknownOpcode, WrongLength, StrayBit, UnknownCode, ArgumentOutside, ResponseLength}
-use Rattle.refusal.specs.declared.Refusal.the-variants.{NoRoom, NotHeld, NotWellFormed, BufferSize, OutputShort, NotAKind, ReelCut, TraceFault}
+use Rattle.refusal.specs.declared.Refusal.the-variants.{NoRoom}
 use Rattle.refusal.specs.Numbers.{numberOf}
+use Rattle.refusal.proofs.Numbers.{number-bounds}
 use Rattle.decoder.specs.Decoding.{Reading, reading, refuses, decode}
 use Rattle.codec.proofs.Places.{decode-own}
 use Rattle.contents.specs.Frames.{flat}
@@ -70,24 +70,6 @@ pub record Roomy (n : ℕ) (d : Day) : Type 0 where
 
 -- ---- a command
 
--- no refusal has the number 0
-number-from-one : (x : Refusal) → 1 ≤ numberOf x
-number-from-one ShortFrame = omega arith
-number-from-one UnknownOpcode = omega arith
-number-from-one WrongLength = omega arith
-number-from-one (StrayBit at) = omega arith
-number-from-one (UnknownCode at) = omega arith
-number-from-one (ArgumentOutside at) = omega arith
-number-from-one ResponseLength = omega arith
-number-from-one NoRoom = omega arith
-number-from-one NotHeld = omega arith
-number-from-one NotWellFormed = omega arith
-number-from-one BufferSize = omega arith
-number-from-one OutputShort = omega arith
-number-from-one NotAKind = omega arith
-number-from-one ReelCut = omega arith
-number-from-one (TraceFault at) = omega arith
-
 whichIn : Answer → ℕ
 whichIn (Done n) = 0
 whichIn (Refused x) = 1
@@ -113,7 +95,7 @@ put-number f room fs x a e = go (decode f) refl (ltb (slotOf f) settings) refl (
     go (reading j vs) p false q w b k = absurd (false≢true (sym b ∙ ap not q))
     go (refuses y) p false q w b k =
         let n : numberOf y ≡ numberOf x = ap numberIn k in
-        inl (omega (arith, n, number-from-one y), omega (arith, n, decode-own f y p))
+        inl (omega (arith, n, number-bounds y .0), omega (arith, n, decode-own f y p))
 
 pub putting-small : (x : Refusal) → Putting x → numberOf x < 9
 putting-small x (inl h) = omega (arith, h .1)

@@ -10,9 +10,8 @@ use native.Mathlib.Omega.{arith}
 use lib.Dec.{T, leb, ltb, leb→le, ltb→lt}
 use lib.ListN.{length, getD, length-append}
 use Rattle.refusal.specs.declared.Refusal.{Refusal}
-use Rattle.refusal.specs.declared.Refusal.the-variants.{ShortFrame, UnknownOpcode, WrongLength, StrayBit, UnknownCode, ArgumentOutside, ResponseLength}
-use Rattle.refusal.specs.declared.Refusal.the-variants.{NoRoom, NotHeld, NotWellFormed, BufferSize, OutputShort, NotAKind, ReelCut, TraceFault}
 use Rattle.refusal.specs.Numbers.{numberOf, placeOf}
+use Rattle.refusal.proofs.Numbers.{number-bounds}
 use Rattle.frame.specs.Field.{mask, part, read, readTo}
 use Rattle.frame.specs.Layout.{fitting, tab, tabFrom, maskOf, reads}
 use Rattle.frame.proofs.Fields.{both-left, both-right}
@@ -105,24 +104,6 @@ line-length : (index : ℕ) (r : Reading) → length (lineOf index r)
 unfolding lineOf
 line-length index r = simp (length-append, blanked-length) (omega arith)
 
--- a refusal's number has two digits at the most
-number-short : (why : Refusal) → numberOf why < 100
-number-short ShortFrame = omega arith
-number-short UnknownOpcode = omega arith
-number-short WrongLength = omega arith
-number-short (StrayBit at) = omega arith
-number-short (UnknownCode at) = omega arith
-number-short (ArgumentOutside at) = omega arith
-number-short ResponseLength = omega arith
-number-short NoRoom = omega arith
-number-short NotHeld = omega arith
-number-short NotWellFormed = omega arith
-number-short BufferSize = omega arith
-number-short OutputShort = omega arith
-number-short NotAKind = omega arith
-number-short ReelCut = omega arith
-number-short (TraceFault at) = omega arith
-
 pub refusal-longest : (index : ℕ) (why : Refusal) → length (lineOf index (refuses why)) ≤ longest
 unfolding blanked
 refusal-longest index why =
@@ -131,7 +112,7 @@ refusal-longest index why =
       line-length index (refuses why),
       decimal-most index,
       decimal-length 0 0 (omega arith),
-      decimal-length 1 (numberOf why) (number-short why),
+      decimal-length 1 (numberOf why) (omega (arith, number-bounds why .1)),
       decimal-most (placeOf why),
     )
 

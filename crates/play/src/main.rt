@@ -50,7 +50,7 @@ fn say_frames(reel: &[u8], line: &mut [u8]) -> bool {
     true
 }
 
-// The frames that the book holds; 213 bytes are enough for the reel of a full one.
+// The frames that the book holds; no reel of a book is longer than 195 bytes.
 fn say_book(book: &[u8], line: &mut [u8]) -> bool {
     let mut reel = [0u8; 512];
     let answer = book::replay(book, &mut reel);

@@ -16,6 +16,7 @@ use Rattle.settings.specs.Settings.{slotFor, slotOf}
 use Rattle.contents.specs.Contents.{wordAt}
 use Rattle.contents.specs.Frames.{flat, held}
 use Rattle.decoder.specs.Decoding.{stray, lacking, judged, known, sought, answered, decode}
+use Rattle.forms.specs.Forms.{other, otherIn}
 use Rattle.book.specs.Plain.{placed, putOn, seat, swapIn}
 use Rattle.cmd_lora.specs.Responses.{loraPacketStatusRsp, loraRxStatsRsp, snr}
 use Rattle.cmd_fsk.specs.Responses.{fskPacketStatusRsp, fskRxStatsRsp}
@@ -94,5 +95,5 @@ bank-day : seen (runIn 4034 bank)
       frames = (0x02 ∷ 0x23 ∷ 0x34 ∷ []) ∷ (0x02 ∷ 0x00 ∷ 0x33 ∷ 0xBE ∷ 0x27 ∷ 0xA0 ∷ []) ∷ [];
       stop = some 96;
     }
-unfolding runIn traced headed recordsFrom recordAt fits wordAt dayOn onSent onReceived noted acceptedOne refusedOne missed bumped plus fresh putOn placed seat swapIn flat held slotFor slotOf part mask read readTo sound put tab tabFrom byteOf maskOf reads plainOf narrowOf narrowsOf lists rxBwCodes isIn takes find stray lacking judged known sought answered decode lora-rx-stats lora-packet-status fsk-rx-stats fsk-packet-status loraRxStatsRsp loraPacketStatusRsp fskRxStatsRsp fskPacketStatusRsp snr
+unfolding runIn traced headed recordsFrom recordAt fits wordAt dayOn onSent onReceived noted acceptedOne refusedOne missed bumped plus fresh putOn placed seat other otherIn swapIn flat held slotFor slotOf part mask read readTo sound put tab tabFrom byteOf maskOf reads plainOf narrowOf narrowsOf lists rxBwCodes isIn takes find stray lacking judged known sought answered decode lora-rx-stats lora-packet-status fsk-rx-stats fsk-packet-status loraRxStatsRsp loraPacketStatusRsp fskRxStatsRsp fskPacketStatusRsp snr
 bank-day = refl

@@ -4,7 +4,7 @@ use Prim.Native.Nat.{ℕ}
 use Rattle.refusal.specs.declared.Refusal.{Refusal}
 use Rattle.refusal.specs.declared.Refusal.the-variants.{ShortFrame, UnknownOpcode, WrongLength, StrayBit, UnknownCode}
 use Rattle.refusal.specs.declared.Refusal.the-variants.{ArgumentOutside, ResponseLength, NoRoom, NotHeld, NotWellFormed}
-use Rattle.refusal.specs.declared.Refusal.the-variants.{BufferSize, OutputShort, NotAKind, ReelCut, TraceFault}
+use Rattle.refusal.specs.declared.Refusal.the-variants.{BufferSize, OutputShort, NotAKind, ReelCut, TraceFault, BothForms}
 
 abbrev pub numberOf : Refusal → ℕ
 -- a frame too short to hold an opcode
@@ -37,6 +37,8 @@ numberOf NotAKind = 13
 numberOf ReelCut = 14
 -- the trace's header or the record at the place does not fit the trace, its first record would stand in the header, or a direction is none
 numberOf (TraceFault at) = 15
+-- the book holds a setting in both its forms
+numberOf BothForms = 16
 
 -- where: the lowest such byte of the frame, counted from 0; of arguments the first, counted from 1; of a trace the byte where the faulty record
 -- starts, counted from 0, and 0 for its header; 0 where there is no place to name
@@ -56,3 +58,4 @@ placeOf BufferSize = 0
 placeOf OutputShort = 0
 placeOf NotAKind = 0
 placeOf ReelCut = 0
+placeOf BothForms = 0

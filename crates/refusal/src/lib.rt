@@ -19,10 +19,11 @@ pub enum Refusal {
     NotAKind,
     ReelCut,
     TraceFault(usize),
+    BothForms,
 }
 
 impl Refusal {
-    // Its number, 1 to 15.
+    // Its number, 1 to 16.
     pub fn number(self) -> u32
         ensures { λ r. ⌜ r ≡ numberOf self ⌝ }
     {
@@ -42,6 +43,7 @@ impl Refusal {
             Refusal::NotAKind => 13,
             Refusal::ReelCut => 14,
             Refusal::TraceFault(_) => 15,
+            Refusal::BothForms => 16,
         }
     }
 
@@ -65,6 +67,7 @@ impl Refusal {
             Refusal::OutputShort => 0,
             Refusal::NotAKind => 0,
             Refusal::ReelCut => 0,
+            Refusal::BothForms => 0,
         }
     }
 }

@@ -8,5 +8,8 @@ write-once κs a h o u p q i = (o .0, (same p q i, o .1 .1))
 slide-once : Once spans.slide.ended spans.slide.Reads.Pre spans.slide.Reads.Learnt
 slide-once κs a h o u p q i = (o .0, (same p q i, o .1 .1))
 
+slide-up-once : Once spans.slide_up.ended spans.slide_up.Reads.Pre spans.slide_up.Reads.Learnt
+slide-up-once κs a h o u p q i = (o .0, (same p q i, o .1 .1))
+
 zero-once : Once spans.zero.ended spans.zero.Reads.Pre spans.zero.Reads.Learnt
 zero-once κs a h o u p q i = (o .0, (same p q i, o .1 .1))

@@ -1,4 +1,4 @@
--- Spans of a buffer: what a write, a move down and a clearing leave. One that does not fit the buffer leaves it as it was.
+-- Spans of a buffer: what a write, a move down or up and a clearing leave. One that does not fit the buffer leaves it as it was.
 -- Assumes nothing.
 use Prim.Native.Nat.{ℕ, _+_}
 use mathlib.Core.Bool.{cond}
@@ -14,6 +14,10 @@ written b at s = cond (leb (at + length s) (length b)) (paste b at s (length s))
 -- the m bytes from at + gap on, moved down to at
 unfoldable pub slid : List ℕ → ℕ → ℕ → ℕ → List ℕ
 slid b at gap m = cond (leb (at + gap + m) (length b)) (paste b at (drop (at + gap) b) m) b
+
+-- the m bytes from at on, moved up to at + gap
+unfoldable pub slidUp : List ℕ → ℕ → ℕ → ℕ → List ℕ
+slidUp b at gap m = cond (leb (at + gap + m) (length b)) (paste b (at + gap) (drop at b) m) b
 
 -- m zeros from at on
 unfoldable pub zeroed : List ℕ → ℕ → ℕ → List ℕ

@@ -1,22 +1,33 @@
-// Spans of a lent buffer, in place: a span is written, moved down, or set to 0. What does not fit the buffer is left undone, so that no call
+// Spans of a lent buffer, in place: a span is written, moved down or up, or set to 0. What does not fit the buffer is left undone, so that no call
 // asks anything of its caller. specs/Spans.antt says what each leaves.
 ghost use mathlib.Core.Path.{_≡_};
-ghost use Rattle.spans.specs.Spans.{written, slid, zeroed};
+ghost use Prim.Native.Nat.{_+_};
+ghost use lib.Dec.{leb};
+ghost use Rattle.spans.specs.Spans.{written, slid, slidUp, zeroed};
+
+// Whether the m bytes from at + gap on lie in a buffer of len bytes.
+fn in_bounds(len: usize, at: usize, gap: usize, m: usize) -> bool
+    ensures { λ r. ⌜ r ≡ leb (at + gap + m) len ⌝ }
+{
+    if len < at {
+        return false;
+    }
+    if len - at < gap {
+        return false;
+    }
+    m <= len - at - gap
+}
 
 // Writes s over the bytes from `at` on.
 pub fn write(b: &mut [u8], at: usize, s: &[u8])
     ensures { λ _. ⌜ now (b .exit) ≡ written (now (b .entry)) at (now (s .entry)) ⌝ }
 {
-    if b.len() < at {
-        return;
-    }
-    if b.len() - at < s.len() {
-        return;
-    }
-    let mut i: usize = 0;
-    while i < s.len() {
-        b[at + i] = s[i];
-        i += 1;
+    if in_bounds(b.len(), at, 0, s.len()) {
+        let mut i: usize = 0;
+        while i < s.len() {
+            b[at + i] = s[i];
+            i += 1;
+        }
     }
 }
 
@@ -24,19 +35,25 @@ pub fn write(b: &mut [u8], at: usize, s: &[u8])
 pub fn slide(b: &mut [u8], at: usize, gap: usize, m: usize)
     ensures { λ _. ⌜ now (b .exit) ≡ slid (now (b .entry)) at gap m ⌝ }
 {
-    if b.len() < at {
-        return;
+    if in_bounds(b.len(), at, gap, m) {
+        let mut i: usize = 0;
+        while i < m {
+            b[at + i] = b[at + gap + i];
+            i += 1;
+        }
     }
-    if b.len() - at < gap {
-        return;
-    }
-    if b.len() - at - gap < m {
-        return;
-    }
-    let mut i: usize = 0;
-    while i < m {
-        b[at + i] = b[at + gap + i];
-        i += 1;
+}
+
+// Moves the m bytes from `at` on up to at + gap, the last one first.
+pub fn slide_up(b: &mut [u8], at: usize, gap: usize, m: usize)
+    ensures { λ _. ⌜ now (b .exit) ≡ slidUp (now (b .entry)) at gap m ⌝ }
+{
+    if in_bounds(b.len(), at, gap, m) {
+        let mut i = m;
+        while i > 0 {
+            i -= 1;
+            b[at + gap + i] = b[at + i];
+        }
     }
 }
 
@@ -44,15 +61,11 @@ pub fn slide(b: &mut [u8], at: usize, gap: usize, m: usize)
 pub fn zero(b: &mut [u8], at: usize, m: usize)
     ensures { λ _. ⌜ now (b .exit) ≡ zeroed (now (b .entry)) at m ⌝ }
 {
-    if b.len() < at {
-        return;
-    }
-    if b.len() - at < m {
-        return;
-    }
-    let mut i: usize = 0;
-    while i < m {
-        b[at + i] = 0;
-        i += 1;
+    if in_bounds(b.len(), at, 0, m) {
+        let mut i: usize = 0;
+        while i < m {
+            b[at + i] = 0;
+            i += 1;
+        }
     }
 }

@@ -5,6 +5,9 @@ use Rattle.table.proofs as table
 table-once : Once table.table.ended table.table.Reads.Pre table.table.Reads.Learnt
 table-once κs a h o u p q i = (same p q i, o .1)
 
+forms-once : Once table.forms.ended table.forms.Reads.Pre table.forms.Reads.Learnt
+forms-once κs a h o u p q i = (same p q i, o .1)
+
 row-at-once : Once table.row_at.ended table.row_at.Reads.Pre table.row_at.Reads.Learnt
 row-at-once κs a h o u p q i = (same p q i, o .1)
 

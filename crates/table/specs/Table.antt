@@ -118,6 +118,11 @@ rows =
     ∷ row 0x021B 10 28 (wide 2 4 ∷ byte 5 ∷ code (upTo 2 (bits 6 1 0)) ∷ wide 7 9 ∷ [])
     ∷ []
 
+-- The kinds that are one setting in two lengths, the shorter form first (REFERENCE, "Short and long forms"). That two kinds share an opcode
+-- does not make them one: 14 and 15 are two settings, 36 and 37 two actions.
+abbrev pub forms : List (List ℕ)
+forms = (5 ∷ 6 ∷ []) ∷ (25 ∷ 26 ∷ []) ∷ (27 ∷ 28 ∷ []) ∷ []
+
 -- ---- a row's parts
 
 abbrev pub opOf : List ℕ → ℕ

@@ -3,7 +3,7 @@
 ghost use mathlib.Core.Path.{_≡_};
 ghost use Rattle.frame.specs.Layout.{put};
 ghost use Rattle.table.specs.Number.{narrowOf, plainOf};
-ghost use Rattle.table.specs.Table.{rows, rowAt, yesNo};
+ghost use Rattle.table.specs.Table.{forms, rows, rowAt, yesNo};
 use frame::Field;
 
 // The fields' numbers, named by their places: B2_7_4 is byte 2, bits 7 to 4; W2_3 is bytes 2 and 3; L3_10 is bytes 3 to 10, low byte first.
@@ -439,6 +439,11 @@ pub const TABLE: [[u32; 13]; KINDS as usize] = [
     ROW_39,
 ];
 
+pub const PAIRS: usize = 3;
+
+// The kinds that are one setting in two lengths, the shorter form first.
+const FORMS: [[u64; 2]; PAIRS] = [[5, 6], [25, 26], [27, 28]];
+
 // The row at a place of the table, and the last one past its end. A match on named rows: a table that is indexed is first built on the stack.
 pub fn row_at(i: usize) -> [u32; 13]
     ensures { λ r. ⌜ r ≡ rowAt i ⌝ }
@@ -491,6 +496,12 @@ pub fn table() -> [[u32; 13]; KINDS as usize]
     ensures { λ r. ⌜ r ≡ rows ⌝ }
 {
     TABLE
+}
+
+pub fn forms() -> [[u64; 2]; PAIRS]
+    ensures { λ r. ⌜ r ≡ forms ⌝ }
+{
+    FORMS
 }
 
 // A field as the checked builder and the decoder have it.

@@ -1,15 +1,25 @@
 use mathlib.Core.Path.{sym, _∙_}
+use native.Mathlib.Omega.{arith}
 use borrow.Author.Needs.{needs}
 use Rattle.book.specs.Book.{ours}
-use Rattle.book.proofs.Calls.{ready-refused, ready-sound}
+use Rattle.book.proofs.Calls.{ready-both, ready-one, ready-refused}
 use Rattle.book.proofs.ready.Statement.{statement}
 use Rattle.book.proofs.ready.Tie as tie
 
 returns : tie.Need-returns
-returns c = ready-sound ours _ (sym (c .enum-told .given .1) ∙ c .before .before .check .ensures)
+returns c =
+    let f = c .before in
+    let m = f .before in
+    ready-both ours (omega arith) _ (sym (m .enum-told .given .1) ∙ m .before .before .check .ensures) (sym (f .both-forms .ensures) ∙ c .if1 .taken)
 
 returns-2 : tie.Need-returns-2
-returns-2 c = ready-refused ours _ _ (sym (c .before .why .given .1) ∙ c .before .before .before .check .ensures)
+returns-2 c =
+    let f = c .before in
+    let m = f .before in
+    ready-one ours (omega arith) _ (sym (m .enum-told .given .1) ∙ m .before .before .check .ensures) (sym (f .both-forms .ensures) ∙ c .if1 .left)
+
+returns-3 : tie.Need-returns-3
+returns-3 c = ready-refused ours _ _ (sym (c .before .why .given .1) ∙ c .before .before .before .check .ensures)
 
 pub ready-spec : {M : Type 1} → statement M
-ready-spec = tie.close (tie.spec (search needs) (search needs) (search needs) returns returns-2)
+ready-spec = tie.close (tie.spec (search needs) (search needs) (search needs) returns (search needs) returns-2 returns-3)

@@ -5,9 +5,8 @@ use borrow.Author.Needs.{needs}
 use denote.Ref.{now}
 use Rattle.contents.proofs.Judged.{Bytes}
 use Rattle.book.specs.Book.{ours}
-use Rattle.book.proofs.Known.{held-within}
-use Rattle.book.proofs.Known.{low-offsets}
-use Rattle.book.proofs.Removing.{remove-absent, remove-done, remove-none, some-held, stands-past}
+use Rattle.book.proofs.Known.{held-past, held-within, low-offsets}
+use Rattle.book.proofs.Removing.{remove-absent, remove-done, remove-none, some-held}
 use Rattle.book.specs.Edits.{takenOut}
 use Rattle.book.proofs.Calls.{Holds, holds-reads, opened-holds, permits, turned-away}
 use Rattle.book.proofs.remove.Statement.{statement}
@@ -30,7 +29,7 @@ take-out-requires c κs =
     let t = o .before .before in
     let s = t .before in
     let r = holds-reads ours _ (known s) in
-    let past = stands-past ours _ (bytes s) (known s) _ _ (s .slot-for .ensures) (t .if1 .taken) (omega arith) _ (o .offset .ensures .0) (i .if2 .taken) in
+    let past = held-past ours _ (bytes s) (known s) _ _ (omega arith) (o .offset .ensures .0) (i .if2 .taken) in
     let in-book = held-within ours _ (bytes s) (known s) _ _ (omega arith) (o .offset .ensures .0) (i .if2 .taken) in (
       past,
       omega (arith, past),

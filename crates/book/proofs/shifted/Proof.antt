@@ -1,6 +1,6 @@
 use native.Mathlib.Omega.{arith}
 use borrow.Author.Needs.{needs}
-use Rattle.book.proofs.Removing.{shifted-after, shifted-gone, shifted-kept}
+use Rattle.book.proofs.Refitting.{shifted-after, shifted-gone, shifted-kept}
 use Rattle.book.proofs.shifted.Statement.{statement}
 use Rattle.book.proofs.shifted.Tie as tie
 

@@ -3,6 +3,7 @@ use mathlib.Core.List.{List}
 use Prim.Native.Nat.{ℕ, _+_, _-_, _≤_}
 use native.Mathlib.Omega.{arith}
 use borrow.Author.Needs.{needs}
+use borrow.Author.Tests.{leb-false, leb-true}
 use lib.ListN.{drop, getD, length, length-drop, length-set, set}
 use lib.Seq.{paste, paste-zero}
 use denote.Ref.{now}
@@ -17,17 +18,14 @@ Inv-loop b₀ at gap m i₀ b i = (i ≤ m) × (length b ≡ length b₀) × (b 
 abbrev μ-loop : tie.MeasureT-loop
 μ-loop b₀ at gap m i₀ b i = m - i
 
-returns : tie.Need-returns Inv-loop μ-loop
-returns c = sym (slid-over _ _ _ _ (omega arith))
-
-returns-2 : tie.Need-returns-2 Inv-loop μ-loop
-returns-2 c = sym (slid-over _ _ _ _ (omega arith))
-
-returns-3 : tie.Need-returns-3 Inv-loop μ-loop
-returns-3 c = sym (slid-over _ _ _ _ (omega arith))
-
 loop-holds : tie.Need-loop-holds Inv-loop μ-loop
-loop-holds c = let a = c .before .before .before .args in (omega arith, refl, paste-zero (now (a .b)) (a .at) (drop (a .at + a .gap) (now (a .b))), omega arith)
+loop-holds c =
+    let a = c .before .before .before .args in (
+      omega arith,
+      refl,
+      paste-zero (now (a .b)) (a .at) (drop (a .at + a .gap) (now (a .b))),
+      leb-true _ _ (sym (c .before .in-bounds .ensures) ∙ c .if1 .taken),
+    )
 
 loop-again : tie.Need-loop-again Inv-loop μ-loop
 loop-again c =
@@ -44,17 +42,20 @@ loop-again c =
 same-length : tie.Need-same-length Inv-loop μ-loop
 same-length c = c .before .loop .inv .1
 
-returns-4 : tie.Need-returns-4 Inv-loop μ-loop
-returns-4 c =
+returns : tie.Need-returns Inv-loop μ-loop
+returns c =
     let a = c .before .before .before .before .before .args in
     let e : c .before .loop .i ≡ c .before .before .before .before .before .args .m = omega arith in
     c .before .loop .inv .2
     ∙ ap (λ (x : ℕ). paste (now (a .b)) (a .at) (drop (a .at + a .gap) (now (a .b))) x) e
     ∙ sym (slid-fits (now (a .b)) (a .at) (a .gap) (a .m) (c .before .loop .inv .3))
 
+returns-2 : tie.Need-returns-2 Inv-loop μ-loop
+returns-2 c = sym (slid-over _ _ _ _ (leb-false _ _ (sym (c .before .in-bounds .ensures) ∙ c .if1 .left)))
+
 pub slide-spec : {M : Type 1} → statement M
 slide-spec =
     tie.close
     (tie.spec
-    Inv-loop μ-loop returns (search needs) returns-2 (search needs) (search needs) returns-3 loop-holds (search needs) (search needs)
-    (search needs) (search needs) (search needs) (search needs) (search needs) loop-again same-length returns-4)
+    Inv-loop μ-loop (search needs) loop-holds (search needs) (search needs) (search needs) (search needs) (search needs) (search needs)
+    (search needs) loop-again same-length returns returns-2)

@@ -7,7 +7,7 @@ use lib.ListN.{getD, length, length-set, set}
 use lib.Seq.{paste, paste-zero}
 use denote.Ref.{now}
 use Rattle.spans.proofs.Pastes.{paste-next}
-use Rattle.spans.proofs.Spans.{written-fits, written-over}
+use Rattle.spans.proofs.Spans.{bounds-in, bounds-out, written-fits, written-over}
 use Rattle.spans.proofs.write.Statement.{statement}
 use Rattle.spans.proofs.write.Tie as tie
 
@@ -17,19 +17,15 @@ Inv-loop b₀ at f i₀ b i = (i ≤ length f) × (length b ≡ length b₀) × 
 abbrev μ-loop : tie.MeasureT-loop
 μ-loop b₀ at f i₀ b i = length f - i
 
-returns : tie.Need-returns Inv-loop μ-loop
-returns c = sym (written-over _ _ _ (omega arith))
-
-returns-2 : tie.Need-returns-2 Inv-loop μ-loop
-returns-2 c = sym (written-over _ _ _ (omega arith))
-
 loop-holds : tie.Need-loop-holds Inv-loop μ-loop
-loop-holds c = let a = c .before .before .args in (omega arith, refl, paste-zero (now (a .b)) (a .at) (now (a .s)), omega arith)
+loop-holds c =
+    let a = c .before .before .before .before .args in
+    (omega arith, refl, paste-zero (now (a .b)) (a .at) (now (a .s)), bounds-in _ _ _ _ (c .before .in-bounds .ensures) (c .if1 .taken))
 
 loop-again : tie.Need-loop-again Inv-loop μ-loop
 loop-again c =
     let at = c .before .before in
-    let a = at .before .before .before .args in (
+    let a = at .before .before .before .before .before .args in (
       omega arith,
       length-set (at .loop .b) _ _ ∙ at .loop .inv .1,
       ap (λ (l : List ℕ). set l (a .at + at .loop .i) (getD (now (a .s)) (at .loop .i) 0)) (at .loop .inv .2)
@@ -40,17 +36,20 @@ loop-again c =
 same-length : tie.Need-same-length Inv-loop μ-loop
 same-length c = c .before .loop .inv .1
 
-returns-3 : tie.Need-returns-3 Inv-loop μ-loop
-returns-3 c =
-    let a = c .before .before .before .before .args in
-    let e : c .before .loop .i ≡ length (now (c .before .before .before .before .args .s)) = omega arith in
+returns : tie.Need-returns Inv-loop μ-loop
+returns c =
+    let a = c .before .before .before .before .before .before .args in
+    let e : c .before .loop .i ≡ length (now (c .before .before .before .before .before .before .args .s)) = omega arith in
     c .before .loop .inv .2
     ∙ ap (λ (x : ℕ). paste (now (a .b)) (a .at) (now (a .s)) x) e
     ∙ sym (written-fits (now (a .b)) (a .at) (now (a .s)) (c .before .loop .inv .3))
+
+returns-2 : tie.Need-returns-2 Inv-loop μ-loop
+returns-2 c = sym (written-over _ _ _ (bounds-out _ _ _ _ (c .before .in-bounds .ensures) (c .if1 .left)))
 
 pub write-spec : {M : Type 1} → statement M
 write-spec =
     tie.close
     (tie.spec
-    Inv-loop μ-loop returns (search needs) returns-2 loop-holds (search needs) (search needs) (search needs) (search needs) (search needs)
-    loop-again same-length returns-3)
+    Inv-loop μ-loop (search needs) loop-holds (search needs) (search needs) (search needs) (search needs) (search needs) loop-again same-length
+    returns returns-2)

@@ -7,7 +7,7 @@ use lib.ListN.{getD-replicate, length, length-replicate, length-set, replicate, 
 use lib.Seq.{paste, paste-zero}
 use denote.Ref.{now}
 use Rattle.spans.proofs.Pastes.{paste-next}
-use Rattle.spans.proofs.Spans.{zeroed-fits, zeroed-over}
+use Rattle.spans.proofs.Spans.{bounds-in, bounds-out, zeroed-fits, zeroed-over}
 use Rattle.spans.proofs.zero.Statement.{statement}
 use Rattle.spans.proofs.zero.Tie as tie
 
@@ -17,19 +17,15 @@ Inv-loop b₀ at m i₀ b i = (i ≤ m) × (length b ≡ length b₀) × (b ≡ 
 abbrev μ-loop : tie.MeasureT-loop
 μ-loop b₀ at m i₀ b i = m - i
 
-returns : tie.Need-returns Inv-loop μ-loop
-returns c = sym (zeroed-over _ _ _ (omega arith))
-
-returns-2 : tie.Need-returns-2 Inv-loop μ-loop
-returns-2 c = sym (zeroed-over _ _ _ (omega arith))
-
 loop-holds : tie.Need-loop-holds Inv-loop μ-loop
-loop-holds c = let a = c .before .before .args in (omega arith, refl, paste-zero (now (a .b)) (a .at) (replicate (a .m) 0), omega arith)
+loop-holds c =
+    let a = c .before .before .before .args in
+    (omega arith, refl, paste-zero (now (a .b)) (a .at) (replicate (a .m) 0), bounds-in _ _ _ _ (c .before .in-bounds .ensures) (c .if1 .taken))
 
 loop-again : tie.Need-loop-again Inv-loop μ-loop
 loop-again c =
     let at = c .before in
-    let a = at .before .before .before .args in (
+    let a = at .before .before .before .before .args in (
       omega arith,
       length-set (at .loop .b) _ _ ∙ at .loop .inv .1,
       ap (λ (l : List ℕ). set l (a .at + at .loop .i) 0) (at .loop .inv .2)
@@ -41,17 +37,19 @@ loop-again c =
 same-length : tie.Need-same-length Inv-loop μ-loop
 same-length c = c .before .loop .inv .1
 
-returns-3 : tie.Need-returns-3 Inv-loop μ-loop
-returns-3 c =
-    let a = c .before .before .before .before .args in
-    let e : c .before .loop .i ≡ c .before .before .before .before .args .m = omega arith in
+returns : tie.Need-returns Inv-loop μ-loop
+returns c =
+    let a = c .before .before .before .before .before .args in
+    let e : c .before .loop .i ≡ c .before .before .before .before .before .args .m = omega arith in
     c .before .loop .inv .2
     ∙ ap (λ (x : ℕ). paste (now (a .b)) (a .at) (replicate (a .m) 0) x) e
     ∙ sym (zeroed-fits (now (a .b)) (a .at) (a .m) (c .before .loop .inv .3))
+
+returns-2 : tie.Need-returns-2 Inv-loop μ-loop
+returns-2 c = sym (zeroed-over _ _ _ (bounds-out _ _ _ _ (c .before .in-bounds .ensures) (c .if1 .left)))
 
 pub zero-spec : {M : Type 1} → statement M
 zero-spec =
     tie.close
     (tie.spec
-    Inv-loop μ-loop returns (search needs) returns-2 loop-holds (search needs) (search needs) (search needs) (search needs)
-    loop-again same-length returns-3)
+    Inv-loop μ-loop (search needs) loop-holds (search needs) (search needs) (search needs) (search needs) loop-again same-length returns returns-2)

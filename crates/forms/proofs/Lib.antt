@@ -1,0 +1,4 @@
+pub mod Loops
+pub mod Forms
+pub mod Most
+pub mod Outcome

@@ -1,0 +1,266 @@
+// What the histories came to: every answer of every call, every swap of forms at the edge of the room, and every way to miss a form has to be met.
+use crate::book::{length, other_form, Answer, Book, Frame, FORMS, SETTINGS};
+use crate::model::{commands, decode, Decoded};
+use crate::record::Record;
+use std::collections::{BTreeMap, BTreeSet};
+
+// The calls, and the refusals that each can give.
+const CALLS: [(&str, &[u8]); 6] = [
+    ("make", &[11]),
+    ("put", &[11, 10, 16, 1, 2, 3, 4, 5, 13, 8]),
+    ("remove", &[11, 10, 16, 13, 9]),
+    ("ask", &[11, 10, 16, 13, 9, 12]),
+    ("clear", &[11, 10, 16]),
+    ("replay", &[11, 10, 16, 12]),
+];
+
+// A book that holds every setting, in the longer form where there are two, takes so many bytes, and its replay so many.
+const FULL: usize = 231;
+const FULL_REPLAY: u16 = 195;
+
+#[derive(Clone, Copy, Debug, PartialEq, Eq, PartialOrd, Ord)]
+pub enum Place {
+    Alone,
+    First,
+    Middle,
+    Last,
+}
+
+pub const PLACES: [Place; 4] = [Place::Alone, Place::First, Place::Middle, Place::Last];
+
+// How the list with the longer form fills the buffer.
+#[derive(Clone, Copy, Debug, PartialEq, Eq, PartialOrd, Ord)]
+enum Room {
+    Spare,
+    Exact,
+    OneShort,
+    Short,
+}
+
+// A put of a kind whose other form is held.
+#[derive(Clone, Copy, Debug, PartialEq, Eq, PartialOrd, Ord)]
+struct Swap {
+    kind: u64,
+    place: Place,
+    room: Room,
+}
+
+#[derive(Default)]
+pub struct Seen {
+    pub histories: u64,
+    calls: [[u64; 17]; CALLS.len()],
+    // Puts that brought back a kind that had been taken out, that made a book of all settings, and that made the longest.
+    returned: u64,
+    full: u64,
+    longest: u64,
+    // Puts of frames that are one of two forms.
+    paired: u64,
+    swaps: BTreeMap<Swap, u64>,
+    // The swaps that fill a buffer to its last byte, or lack one, by the buffer's length.
+    edges: BTreeSet<(usize, Swap)>,
+    // Of what is asked for or taken out: the form that is not held while the other is.
+    missed: BTreeMap<(usize, u64), u64>,
+    // Calls on a book with both forms that has another fault too.
+    spoilt: [u64; CALLS.len()],
+    // Puts into a book with both forms of what does not decode.
+    undecoded: u64,
+    // A full book's replay, in as many bytes as it takes and in one less; no room for the longest book in a buffer one byte shorter.
+    replayed: [u64; 2],
+    byte_less: u64,
+    // No room in a buffer that has room for everything: this must never be.
+    impossible: u64,
+    // Of this history: the kinds that were taken out, and whether a book with both forms was spoilt.
+    gone: Vec<u64>,
+    is_spoilt: bool,
+}
+
+// Which of the calls a record is; none for one that only sets the buffer up.
+fn call(record: &Record) -> Option<usize> {
+    Some(match record {
+        Record::Lend { .. } | Record::Poke { .. } => return None,
+        Record::Make => 0,
+        Record::Put { .. } => 1,
+        Record::Remove { .. } => 2,
+        Record::Ask { .. } => 3,
+        Record::Clear => 4,
+        Record::Replay { .. } => 5,
+    })
+}
+
+fn taken(frames: &[Frame]) -> usize {
+    62 + frames.iter().map(|f| f.bytes.len()).sum::<usize>()
+}
+
+// The kind of a frame that is one of two forms. Most frames are told by opcode and length to be none, which is quicker than to decode them.
+fn form_of(frame: &[u8]) -> Option<u64> {
+    let command = commands().iter().find(|c| frame.len() == c.length && frame.starts_with(&c.opcode))?;
+    other_form(command.kind)?;
+    match decode(frame) {
+        Decoded::Kind(kind, _) => Some(kind),
+        Decoded::Refused(..) => None,
+    }
+}
+
+// The swap that a put of a kind into these frames is, if it is one.
+fn swap(kind: u64, frames: &[Frame], size: usize) -> Option<Swap> {
+    let other = other_form(kind)?;
+    let at = frames.iter().position(|f| f.kind == other)?;
+    let place = match (at, frames.len() - 1 - at) {
+        (0, 0) => Place::Alone,
+        (0, _) => Place::First,
+        (_, 0) => Place::Last,
+        _ => Place::Middle,
+    };
+    let room = match taken(frames) - length(other) + length(kind).max(length(other)) {
+        bytes if bytes < size => Room::Spare,
+        bytes if bytes == size => Room::Exact,
+        bytes if bytes == size + 1 => Room::OneShort,
+        _ => Room::Short,
+    };
+    Some(Swap { kind, place, room })
+}
+
+impl Seen {
+    // What a record did: the content before it, its answer, and the book after it.
+    pub fn add(&mut self, record: &Record, before: &Result<Vec<Frame>, u8>, answer: Answer, book: &Book) {
+        match record {
+            Record::Lend { .. } => {
+                self.histories += 1;
+                self.gone.clear();
+                self.is_spoilt = false;
+            }
+            Record::Poke { .. } => self.is_spoilt = before.as_ref().err() == Some(&16) && book.content.as_ref().err() == Some(&10),
+            _ => {}
+        }
+        if let Some(which) = call(record) {
+            self.calls[which][answer.refusal as usize] += 1;
+            self.spoilt[which] += (self.is_spoilt && answer.refusal == 10) as u64;
+        }
+        match record {
+            Record::Put { frame } => self.put(frame, before, answer, book),
+            Record::Remove { kind } if answer.refusal == 0 => self.gone.push(*kind),
+            Record::Remove { kind } => self.miss(2, *kind, answer, book),
+            Record::Ask { kind, .. } => self.miss(3, *kind, answer, book),
+            Record::Replay { output } if *output <= FULL_REPLAY as usize && book.content.as_deref().map_or(0, taken) == FULL => {
+                self.replayed[0] += (answer.written == FULL_REPLAY) as u64;
+                self.replayed[1] += (answer.refusal == 12 && *output + 1 == FULL_REPLAY as usize) as u64;
+            }
+            _ => {}
+        }
+    }
+
+    fn put(&mut self, frame: &[u8], before: &Result<Vec<Frame>, u8>, answer: Answer, book: &Book) {
+        let (size, form) = (book.bytes.len(), form_of(frame));
+        self.paired += form.is_some() as u64;
+        self.undecoded += (answer.refusal == 16 && matches!(decode(frame), Decoded::Refused(..))) as u64;
+        self.impossible += (answer.refusal == 8 && size >= FULL) as u64;
+        let before = match before {
+            Ok(before) => before,
+            Err(_) => return,
+        };
+        let swapped = form.and_then(|kind| swap(kind, before, size));
+        if let Some(swap) = swapped {
+            *self.swaps.entry(swap).or_default() += 1;
+            if let Room::Exact | Room::OneShort = swap.room {
+                self.edges.insert((size, swap));
+            }
+        }
+        let after = book.content.as_deref().unwrap_or(&[]);
+        if after.len() > before.len() {
+            self.returned += self.gone.contains(&after[before.len()].kind) as u64;
+            self.full += (after.len() == SETTINGS.len() - FORMS.len()) as u64;
+        }
+        self.longest += (taken(after) == FULL && taken(before) < FULL) as u64;
+        let replaced = swapped.and_then(|swap| other_form(swap.kind)).map_or(0, length);
+        self.byte_less += (answer.refusal == 8 && size == FULL - 1 && taken(before) - replaced + frame.len() == FULL) as u64;
+    }
+
+    fn miss(&mut self, which: usize, kind: u64, answer: Answer, book: &Book) {
+        let held = |other: u64| book.content.as_deref().map_or(false, |frames| frames.iter().any(|f| f.kind == other));
+        if answer.refusal == 9 && other_form(kind).map_or(false, held) {
+            *self.missed.entry((which, kind)).or_default() += 1;
+        }
+    }
+
+    fn swaps(&self, which: impl Fn(&Swap) -> bool) -> u64 {
+        self.swaps.iter().filter(|(swap, _)| which(swap)).map(|(_, n)| n).sum()
+    }
+
+    // How many there were of each.
+    pub fn words(&self) -> String {
+        let total = |refusal: usize| self.calls.iter().map(|call| call[refusal]).sum::<u64>();
+        let refusals: Vec<String> = (1..17).filter(|r| total(*r) > 0).map(|r| format!("{}: {}", r, total(r))).collect();
+        let calls = (0..17).map(total).sum::<u64>();
+        let puts = self.calls[1].iter().sum::<u64>();
+        let longer = |swap: &Swap| FORMS.iter().any(|(_, long)| swap.kind == *long);
+        let fits = |swap: &Swap| swap.room <= Room::Exact;
+        let lines = [
+            format!("{} histories, {} calls, {} done; refusals {}", self.histories, calls, total(0), refusals.join(", ")),
+            format!(
+                "{} puts that brought a kind back, {} that made a book of all 26 settings, {} that made one of {} bytes; one byte less refused {}",
+                self.returned, self.full, self.longest, FULL, self.byte_less
+            ),
+            format!(
+                "{} of {} puts of a paired kind; swaps: {} to the longer form, {} to the shorter, {} refused for room; {} edges of the room met",
+                self.paired,
+                puts,
+                self.swaps(|s| longer(s) && fits(s)),
+                self.swaps(|s| !longer(s)),
+                self.swaps(|s| longer(s) && !fits(s)),
+                self.edges.len()
+            ),
+            format!(
+                "{} asks and removals of the form that is not held; of books with both forms, {} calls refused by 16 and {} by 10 for another fault",
+                self.missed.values().sum::<u64>(),
+                total(16),
+                self.spoilt.iter().sum::<u64>()
+            ),
+        ];
+        lines.join("\n")
+    }
+
+    // What was never met.
+    pub fn missing(&self) -> Vec<String> {
+        let all = [self.owed_of_calls(), self.owed_of_forms(), self.owed_of_full_books()].concat();
+        all.into_iter().filter(|(met, _)| !met).map(|(_, what)| what).collect()
+    }
+
+    fn owed_of_calls(&self) -> Vec<(bool, String)> {
+        let mut owed = vec![];
+        for (which, (name, refusals)) in CALLS.iter().enumerate() {
+            for refusal in std::iter::once(&0).chain(*refusals) {
+                owed.push((self.calls[which][*refusal as usize] > 0, format!("a {} with the answer {}", name, refusal)));
+            }
+            owed.push((which == 0 || self.spoilt[which] > 0, format!("a {} refused by 10 on a book with both forms", name)));
+        }
+        owed.push((self.undecoded > 0, "a put refused by 16 that does not decode".into()));
+        owed
+    }
+
+    fn owed_of_forms(&self) -> Vec<(bool, String)> {
+        let mut owed = vec![(3 * self.paired >= self.calls[1].iter().sum(), "a third of all puts of paired kinds".into())];
+        for (short, long) in FORMS {
+            for place in PLACES {
+                for (kind, room) in [(long, Room::Exact), (long, Room::OneShort), (short, Room::Exact)] {
+                    let swap = Swap { kind, place, room };
+                    owed.push((self.swaps.contains_key(&swap), format!("{:?}", swap)));
+                }
+            }
+            for (kind, which) in [(short, 2), (short, 3), (long, 2), (long, 3)] {
+                let what = format!("a {} of kind {} while its other form is held", CALLS[which].0, kind);
+                owed.push((self.missed.contains_key(&(which, kind)), what));
+            }
+        }
+        owed
+    }
+
+    fn owed_of_full_books(&self) -> Vec<(bool, String)> {
+        vec![
+            (self.longest > 0, format!("a book of {} bytes", FULL)),
+            (self.byte_less > 0, format!("a put refused as the buffer has {} bytes", FULL - 1)),
+            (self.impossible == 0, format!("room for every put in {} bytes", FULL)),
+            (self.replayed[0] > 0, format!("a replay of {} bytes", FULL_REPLAY)),
+            (self.replayed[1] > 0, format!("a replay of {} bytes into one less", FULL_REPLAY)),
+        ]
+    }
+}
