@@ -1,24 +1,29 @@
 -- A stored book that holds a setting in both its forms: every call but make gets 16 and alters nothing, whatever it is asked (`both-refused`);
--- what is no book by its size or bytes is refused for that first (`ten-first`), and no other call gets 16 (`sixteen-only`).
+-- what is no book by its size or bytes is refused for that first (`ten-first`), no other call gets 16 (`sixteen-only`),
+-- and after a make none ever does (`never-sixteen`).
 -- Assumes nothing.
-use mathlib.Core.Path.{ap, refl, subst, sym, _≡_}
+use mathlib.Core.Path.{ap, refl, subst, sym, _∙_, _≡_}
 use mathlib.Core.Bool.{Bool, cond, false, false≢true, true}
-use mathlib.Core.List.{List, []}
-use Prim.Native.Nat.{ℕ}
+use mathlib.Core.List.{List, [], _∷_}
+use Prim.Native.Nat.{ℕ, _-_, _≤_}
 use native.Mathlib.Omega.{arith}
+use lib.ListN.{length}
 use Rattle.refusal.specs.declared.Refusal.{Refusal}
 use Rattle.refusal.specs.declared.Refusal.the-variants.{BothForms}
 use Rattle.refusal.specs.Numbers.{numberOf}
 use Rattle.contents.specs.Contents.{Contents, Layout, holds, judge, refused}
 use Rattle.contents.proofs.Places.{judge-own}
 use Rattle.forms.specs.Forms.{single}
+use Rattle.forms.proofs.Forms.{forms-single}
 use Rattle.book.specs.declared.Answer.the-variants.{Refused}
-use Rattle.book.specs.Book.{agreed, call, opened}
-use Rattle.book.specs.History.{Ask, Call, Clear, Make, Put, Remove, Replay, after}
+use Rattle.book.specs.Book.{agreed, call, opened, ours}
+use Rattle.book.specs.History.{Ask, Call, Clear, Make, Put, Remove, Replay, after, onBytes, onList, turn}
 use Rattle.book.specs.Plain.{Turn}
 use Rattle.codec.proofs.Places.{decode-own}
+use Rattle.book.proofs.Calls.{opened-forms, opened-judge}
 use Rattle.book.proofs.Keeps.{lentTo}
 use Rattle.book.proofs.Places.{Says, Steps, after-says, made-says}
+use Rattle.book.proofs.Single.{history-opens}
 
 -- whether a call is a make
 abbrev pub isMake : Call → Bool
@@ -105,3 +110,13 @@ module _ (l : Layout) (b : List ℕ) where
       opens (Ask k o) e = refl
       opens Clear e = refl
       opens (Replay o) e = refl
+
+-- NO CALL OF OURS EVER LEADS TO A 16: after a make and whatever calls, no call gets it
+pub never-sixteen : (b : List ℕ) → 62 ≤ length b → length b ≤ 4096 → (cs : List Call) (c : Call)
+    → after ours c (onBytes (after ours) (Make ∷ cs) b .bytes) .answer ≡ Refused BothForms → ⊥
+never-sixteen b low high cs c e =
+    let two = sixteen-only ours (onBytes (after ours) (Make ∷ cs) b .bytes) c e .1 in
+    let opens = history-opens b low high cs in
+    let same : holds (two .frames) ≡ holds (onList (turn (length b - 62)) (Make ∷ cs) [] .frames) = sym (two .reads) ∙ opened-judge ours _ _ opens in
+    let frames : two .frames ≡ onList (turn (length b - 62)) (Make ∷ cs) [] .frames = cc in
+    false≢true (sym (two .two) ∙ ap single frames ∙ forms-single _ (opened-forms ours _ _ opens))

@@ -1,5 +1,5 @@
 -- What a book's list can be, whatever the calls were: one frame for each kind (`history-single`) and one form of each setting
--- (`history-forms`); so no call of ours ever meets a 16 (`history-opens`), a book of 231 bytes holds all (`history-most`, `history-fits`), and
+-- (`history-forms`); so it always opens (`history-opens`), a book of 231 bytes holds all (`history-most`, `never-full`), and
 -- 195 bytes take any replay (`replay-most`).
 -- Assumes nothing.
 use mathlib.Core.Path.{ap, refl, sym, _∙_, _≡_}
@@ -21,11 +21,12 @@ use Rattle.contents.proofs.Shape.{Sound}
 use Rattle.reel.specs.Reel.{reelOf}
 use Rattle.forms.proofs.Forms.{OneForm}
 use Rattle.forms.proofs.Most.{most-bytes, most-frames}
-use Rattle.book.specs.Plain.{become, placed, putOn}
-use Rattle.book.specs.Book.{opened, ours}
-use Rattle.book.specs.History.{BytesRun, Call, Make, after, onBytes, onList, turn}
+use Rattle.book.specs.declared.Answer.the-variants.{Done}
+use Rattle.book.specs.Plain.{Turn, become, placed, putOn}
+use Rattle.book.specs.Book.{Outcome, opened, ours}
+use Rattle.book.specs.History.{BytesRun, Call, Make, Put, after, onBytes, onList, turn}
 use Rattle.book.proofs.Kept.{Kept, empty-kept, opened-kept, turns-kept}
-use Rattle.book.proofs.History.{history-ours, opened-image}
+use Rattle.book.proofs.History.{after-image, history-ours, opened-image}
 use Rattle.book.proofs.Laws.{setting-fits}
 use Rattle.book.proofs.Telling.{reel-length}
 
@@ -92,18 +93,28 @@ module _ (n : ℕ) (cs : List Call) where
   pub history-frames : length (onList (turn n) cs [] .frames) ≤ 26
   history-frames = most-frames (onList (turn n) cs [] .frames) (kept .sound) (kept .forms)
 
-  -- SO A BOOK OF 231 BYTES REFUSES NO SETTING FOR ROOM, in whichever order the kinds are put
+  -- so where they have room no setting is refused for it, in whichever order the kinds are put
   pub history-fits : 169 ≤ n → (f o : List ℕ) → slotOf f < settings
       → putOn f o n (onList (turn n) cs [] .frames) ≡ become o (placed f (onList (turn n) cs [] .frames))
   history-fits r f o a = setting-fits f o n (onList (turn n) cs [] .frames) a (kept .sound) (kept .forms) r
 
--- and none of our calls ever meets a 16: a book that was made and then called in any way opens
+-- a book that was made and then called in any way opens
 pub history-opens : (b : List ℕ) → 62 ≤ length b → length b ≤ 4096 → (cs : List Call)
     → opened ours (onBytes (after ours) (Make ∷ cs) b .bytes) ≡ holds (onList (turn (length b - 62)) (Make ∷ cs) [] .frames)
 history-opens b low high cs =
     ap (λ (r : BytesRun). opened ours (r .bytes)) (history-ours b low high cs)
     ∙ opened-image ours (length b) low high (onList (turn (length b - 62)) (Make ∷ cs) [] .frames)
     (turns-kept (ours .slots) (omega arith) (length b - 62) (Make ∷ cs) [] (empty-kept (ours .slots) (length b - 62)))
+
+-- A BOOK OF 231 BYTES OR MORE TAKES EVERY SETTING'S FRAME, after whatever calls
+pub never-full : (b : List ℕ) → 231 ≤ length b → length b ≤ 4096 → (cs : List Call) (f : List ℕ) → slotOf f < settings
+    → after ours (Put f) (onBytes (after ours) (Make ∷ cs) b .bytes) .answer ≡ Done 0
+unfolding turn
+never-full b low high cs f a =
+    let kept = turns-kept (ours .slots) (omega arith) (length b - 62) (Make ∷ cs) [] (empty-kept (ours .slots) (length b - 62)) in
+    ap (λ (r : BytesRun). after ours (Put f) (r .bytes) .answer) (history-ours b (omega arith) high cs)
+    ∙ ap (λ (o : Outcome). o .answer) (after-image ours (length b) (omega arith) high (Put f) (onList (turn (length b - 62)) (Make ∷ cs) [] .frames) kept)
+    ∙ ap (λ (t : Turn). t .answer) (history-fits (length b - 62) (Make ∷ cs) (omega arith) f [] a)
 
 -- ---- the replay
 

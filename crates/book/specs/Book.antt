@@ -17,7 +17,7 @@ use Rattle.book.specs.declared.Answer.the-variants.{Done, Refused}
 abbrev pub ours : Layout
 ours = layout 1 29
 
--- Well-formed bytes that hold a setting in both its forms are refused for that.
+-- Bytes that hold a setting in both its forms are refused for that, once they are well formed (REFERENCE, "Short and long forms").
 abbrev pub agreed : Contents → Contents
 agreed (refused x) = refused x
 agreed (holds fs) = given (single fs) BothForms (holds fs)

@@ -53,7 +53,7 @@ unfoldable pub without : ℕ → List (List ℕ) → List (List ℕ)
 without s [] = []
 without s (f ∷ fs) = cond (eqb (slotOf f) s) fs (f ∷ without s fs)
 
--- the slot whose place a frame of the slot s takes: its own if that is held, and else its other form's
+-- the slot whose place a frame of the slot s takes: its own if that is held, and else its other form's (REFERENCE, "Short and long forms")
 unfoldable pub seat : ℕ → List (List ℕ) → ℕ
 seat s fs = cond (held s fs) s (other s)
 
@@ -71,7 +71,7 @@ putOn f o room fs =
     (cond (leb (length (flat (placed f fs))) room) (become o (placed f fs)) (refuse NoRoom o fs))
     (refuse (lacks (decode f)) o fs)
 
--- What is asked of a kind: first that it is a setting, then that it is held.
+-- What is asked of a kind: first that it is a setting, then that it is held itself; that its other form is does not count.
 abbrev pub ifHeld : ℕ → Turn → List ℕ → List (List ℕ) → Turn
 ifHeld s t o fs = cond (ltb s settings) (cond (held s fs) t (refuse NotHeld o fs)) (refuse NotAKind o fs)
 
