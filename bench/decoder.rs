@@ -8,7 +8,7 @@ pub struct Decoded {
     pub args: [u64; 9],
 }
 
-fn refused(refusal: u8, place: u8) -> Decoded {
+pub fn refused(refusal: u8, place: u8) -> Decoded {
     Decoded { refusal, place, kind: 0, count: 0, args: [0; 9] }
 }
 

@@ -9,7 +9,7 @@ import sys
 from xml.sax.saxutils import escape
 
 GROUPS = [("builders", "#3465a4"), ("readers", "#4e9a06"), ("decoder", "#a40000"), ("book", "#8f5902"), ("dump", "#5c3566")]
-LEFT, WIDTH, RIGHT, ROW, TOP = 270, 400, 40, 13, 44
+LEFT, WIDTH, RIGHT, ROW, TOP = 360, 400, 40, 13, 44
 
 
 def group(name):

@@ -111,19 +111,30 @@ fn mixed_cca_result(r: &mut cmd_common::CcaResultRsp) -> u64 {
 }
 response!(rs_cca_result, cmd_common::CcaResultRsp, 6, mixed_cca_result);
 
-// ---- the decoder, beside one written by hand
+// ---- the decoder, beside one written by hand, and that one behind a walk over the rows
 
 #[path = "../../bench/decoder.rs"]
 mod decoder;
 
-#[no_mangle]
-pub unsafe extern "C" fn rs_decode(p: *const u8, n: usize) -> u64 {
-    let d = decoder::decode(core::slice::from_raw_parts(p, n));
+#[path = "../../bench/walk.rs"]
+mod walk;
+
+fn mixed_decoded(d: decoder::Decoded) -> u64 {
     let mut mix = d.refusal as u64 ^ ((d.place as u64) << 8) ^ ((d.kind as u64) << 16) ^ ((d.count as u64) << 24);
     for (i, v) in d.args.iter().enumerate() {
         mix ^= v << i;
     }
     mix
+}
+
+#[no_mangle]
+pub unsafe extern "C" fn rs_decode(p: *const u8, n: usize) -> u64 {
+    mixed_decoded(decoder::decode(core::slice::from_raw_parts(p, n)))
+}
+
+#[no_mangle]
+pub unsafe extern "C" fn rs_walk(p: *const u8, n: usize) -> u64 {
+    mixed_decoded(walk::walk(core::slice::from_raw_parts(p, n)))
 }
 
 // ---- the book, beside one written by hand

@@ -5,10 +5,10 @@ ghost use Rattle.table.specs.Table.{plain, yesNo};
 ghost use Rattle.cmd_common.specs.Codes.{rxPathCode, rxBoostCode, paSelCode, paLfModeCode};
 ghost use Rattle.cmd_common.specs.Codes.{autoTxrxModeCode, timestampIndexCode, timestampSourceCode, cadExitModeCode};
 use table::OPCODE;
+use table::fields;
 use table::put_plain;
 use table::yes_no;
 
-mod cells;
 pub mod rsp;
 
 pub use rsp::CcaResultRead;
@@ -189,8 +189,8 @@ pub fn set_rf_frequency_cmd(rf_freq: u32) -> [u8; 6]
     ensures { λ r. ⌜ r ≡ plain 24 («rf_freq» ∷ []) ⌝ }
 {
     let mut cmd = [0u8; 6];
-    put_plain(&mut cmd, OPCODE, cells::K24_OP);
-    put_plain(&mut cmd, cells::K24_RF_FREQ, rf_freq as u64);
+    put_plain(&mut cmd, OPCODE, fields::K24_OP);
+    put_plain(&mut cmd, fields::K24_RF_FREQ, rf_freq as u64);
     cmd
 }
 
@@ -199,8 +199,8 @@ pub fn set_rx_path_cmd(rx_path: RxPath) -> [u8; 3]
     ensures { λ r. ⌜ r ≡ plain 25 (rxPathCode «rx_path» ∷ []) ⌝ }
 {
     let mut cmd = [0u8; 3];
-    put_plain(&mut cmd, OPCODE, cells::K25_OP);
-    put_plain(&mut cmd, cells::K25_RX_PATH, rx_path.code());
+    put_plain(&mut cmd, OPCODE, fields::K25_OP);
+    put_plain(&mut cmd, fields::K25_RX_PATH, rx_path.code());
     cmd
 }
 
@@ -209,9 +209,9 @@ pub fn set_rx_path_adv_cmd(rx_path: RxPath, rx_boost: RxBoost) -> [u8; 4]
     ensures { λ r. ⌜ r ≡ plain 26 (rxPathCode «rx_path» ∷ rxBoostCode «rx_boost» ∷ []) ⌝ }
 {
     let mut cmd = [0u8; 4];
-    put_plain(&mut cmd, OPCODE, cells::K26_OP);
-    put_plain(&mut cmd, cells::K26_RX_PATH, rx_path.code());
-    put_plain(&mut cmd, cells::K26_RX_BOOST, rx_boost.code());
+    put_plain(&mut cmd, OPCODE, fields::K26_OP);
+    put_plain(&mut cmd, fields::K26_RX_PATH, rx_path.code());
+    put_plain(&mut cmd, fields::K26_RX_BOOST, rx_boost.code());
     cmd
 }
 
@@ -225,15 +225,15 @@ pub fn set_pa_config_cmd(
     ensures { λ r. ⌜ r ≡ plain 27 (paSelCode «pa_sel» ∷ paLfModeCode «pa_lf_mode» ∷ «pa_lf_duty_cycle» ∷ «pa_lf_slices» ∷ []) ⌝ }
 {
     let mut cmd = [0u8; 4];
-    put_plain(&mut cmd, OPCODE, cells::K27_OP);
-    put_plain(&mut cmd, cells::K27_PA_SEL, pa_sel.code());
-    put_plain(&mut cmd, cells::K27_PA_LF_MODE, pa_lf_mode.code());
+    put_plain(&mut cmd, OPCODE, fields::K27_OP);
+    put_plain(&mut cmd, fields::K27_PA_SEL, pa_sel.code());
+    put_plain(&mut cmd, fields::K27_PA_LF_MODE, pa_lf_mode.code());
     put_plain(
         &mut cmd,
-        cells::K27_PA_LF_DUTY_CYCLE,
+        fields::K27_PA_LF_DUTY_CYCLE,
         pa_lf_duty_cycle as u64,
     );
-    put_plain(&mut cmd, cells::K27_PA_LF_SLICES, pa_lf_slices as u64);
+    put_plain(&mut cmd, fields::K27_PA_LF_SLICES, pa_lf_slices as u64);
     cmd
 }
 
@@ -248,18 +248,18 @@ pub fn set_pa_config_adv_cmd(
     ensures { λ r. ⌜ r ≡ plain 28 (paSelCode «pa_sel» ∷ paLfModeCode «pa_lf_mode» ∷ «pa_lf_duty_cycle» ∷ «pa_lf_slices» ∷ «pa_hf_duty_cycle» ∷ []) ⌝ }
 {
     let mut cmd = [0u8; 5];
-    put_plain(&mut cmd, OPCODE, cells::K28_OP);
-    put_plain(&mut cmd, cells::K28_PA_SEL, pa_sel.code());
-    put_plain(&mut cmd, cells::K28_PA_LF_MODE, pa_lf_mode.code());
+    put_plain(&mut cmd, OPCODE, fields::K28_OP);
+    put_plain(&mut cmd, fields::K28_PA_SEL, pa_sel.code());
+    put_plain(&mut cmd, fields::K28_PA_LF_MODE, pa_lf_mode.code());
     put_plain(
         &mut cmd,
-        cells::K28_PA_LF_DUTY_CYCLE,
+        fields::K28_PA_LF_DUTY_CYCLE,
         pa_lf_duty_cycle as u64,
     );
-    put_plain(&mut cmd, cells::K28_PA_LF_SLICES, pa_lf_slices as u64);
+    put_plain(&mut cmd, fields::K28_PA_LF_SLICES, pa_lf_slices as u64);
     put_plain(
         &mut cmd,
-        cells::K28_PA_HF_DUTY_CYCLE,
+        fields::K28_PA_HF_DUTY_CYCLE,
         pa_hf_duty_cycle as u64,
     );
     cmd
@@ -270,8 +270,8 @@ pub fn set_rx_adv_cmd(rx_timeout: u32) -> [u8; 5]
     ensures { λ r. ⌜ r ≡ plain 29 («rx_timeout» ∷ []) ⌝ }
 {
     let mut cmd = [0u8; 5];
-    put_plain(&mut cmd, OPCODE, cells::K29_OP);
-    put_plain(&mut cmd, cells::K29_RX_TIMEOUT, rx_timeout as u64);
+    put_plain(&mut cmd, OPCODE, fields::K29_OP);
+    put_plain(&mut cmd, fields::K29_RX_TIMEOUT, rx_timeout as u64);
     cmd
 }
 
@@ -280,8 +280,8 @@ pub fn set_tx_adv_cmd(tx_timeout: u32) -> [u8; 5]
     ensures { λ r. ⌜ r ≡ plain 30 («tx_timeout» ∷ []) ⌝ }
 {
     let mut cmd = [0u8; 5];
-    put_plain(&mut cmd, OPCODE, cells::K30_OP);
-    put_plain(&mut cmd, cells::K30_TX_TIMEOUT, tx_timeout as u64);
+    put_plain(&mut cmd, OPCODE, fields::K30_OP);
+    put_plain(&mut cmd, fields::K30_TX_TIMEOUT, tx_timeout as u64);
     cmd
 }
 
@@ -290,8 +290,8 @@ pub fn sel_pa_cmd(pa_sel: PaSel) -> [u8; 3]
     ensures { λ r. ⌜ r ≡ plain 31 (paSelCode «pa_sel» ∷ []) ⌝ }
 {
     let mut cmd = [0u8; 3];
-    put_plain(&mut cmd, OPCODE, cells::K31_OP);
-    put_plain(&mut cmd, cells::K31_PA_SEL, pa_sel.code());
+    put_plain(&mut cmd, OPCODE, fields::K31_OP);
+    put_plain(&mut cmd, fields::K31_PA_SEL, pa_sel.code());
     cmd
 }
 
@@ -305,11 +305,11 @@ pub fn set_rx_duty_cycle_cmd(
     ensures { λ r. ⌜ r ≡ plain 32 («rx_max_time» ∷ «cycle_time» ∷ yesNo «use_lora_cad» ∷ «dram_ret» ∷ []) ⌝ }
 {
     let mut cmd = [0u8; 9];
-    put_plain(&mut cmd, OPCODE, cells::K32_OP);
-    put_plain(&mut cmd, cells::K32_RX_MAX_TIME, rx_max_time as u64);
-    put_plain(&mut cmd, cells::K32_CYCLE_TIME, cycle_time as u64);
-    put_plain(&mut cmd, cells::K32_USE_LORA_CAD, yes_no(use_lora_cad));
-    put_plain(&mut cmd, cells::K32_DRAM_RET, dram_ret as u64);
+    put_plain(&mut cmd, OPCODE, fields::K32_OP);
+    put_plain(&mut cmd, fields::K32_RX_MAX_TIME, rx_max_time as u64);
+    put_plain(&mut cmd, fields::K32_CYCLE_TIME, cycle_time as u64);
+    put_plain(&mut cmd, fields::K32_USE_LORA_CAD, yes_no(use_lora_cad));
+    put_plain(&mut cmd, fields::K32_DRAM_RET, dram_ret as u64);
     cmd
 }
 
@@ -323,11 +323,11 @@ pub fn set_auto_rx_tx_cmd(
     ensures { λ r. ⌜ r ≡ plain 33 (yesNo clear ∷ autoTxrxModeCode «auto_txrx_mode» ∷ timeout ∷ delay ∷ []) ⌝ }
 {
     let mut cmd = [0u8; 10];
-    put_plain(&mut cmd, OPCODE, cells::K33_OP);
-    put_plain(&mut cmd, cells::K33_CLEAR, yes_no(clear));
-    put_plain(&mut cmd, cells::K33_AUTO_TXRX_MODE, auto_txrx_mode.code());
-    put_plain(&mut cmd, cells::K33_TIMEOUT, timeout as u64);
-    put_plain(&mut cmd, cells::K33_DELAY, delay as u64);
+    put_plain(&mut cmd, OPCODE, fields::K33_OP);
+    put_plain(&mut cmd, fields::K33_CLEAR, yes_no(clear));
+    put_plain(&mut cmd, fields::K33_AUTO_TXRX_MODE, auto_txrx_mode.code());
+    put_plain(&mut cmd, fields::K33_TIMEOUT, timeout as u64);
+    put_plain(&mut cmd, fields::K33_DELAY, delay as u64);
     cmd
 }
 
@@ -336,9 +336,9 @@ pub fn set_default_rx_tx_timeout_cmd(rx_timeout: u32, tx_timeout: u32) -> [u8; 8
     ensures { λ r. ⌜ r ≡ plain 34 («rx_timeout» ∷ «tx_timeout» ∷ []) ⌝ }
 {
     let mut cmd = [0u8; 8];
-    put_plain(&mut cmd, OPCODE, cells::K34_OP);
-    put_plain(&mut cmd, cells::K34_RX_TIMEOUT, rx_timeout as u64);
-    put_plain(&mut cmd, cells::K34_TX_TIMEOUT, tx_timeout as u64);
+    put_plain(&mut cmd, OPCODE, fields::K34_OP);
+    put_plain(&mut cmd, fields::K34_RX_TIMEOUT, rx_timeout as u64);
+    put_plain(&mut cmd, fields::K34_TX_TIMEOUT, tx_timeout as u64);
     cmd
 }
 
@@ -350,11 +350,15 @@ pub fn set_timestamp_source_cmd(
     ensures { λ r. ⌜ r ≡ plain 35 (timestampIndexCode «timestamp_index» ∷ timestampSourceCode «timestamp_source» ∷ []) ⌝ }
 {
     let mut cmd = [0u8; 3];
-    put_plain(&mut cmd, OPCODE, cells::K35_OP);
-    put_plain(&mut cmd, cells::K35_TIMESTAMP_INDEX, timestamp_index.code());
+    put_plain(&mut cmd, OPCODE, fields::K35_OP);
     put_plain(
         &mut cmd,
-        cells::K35_TIMESTAMP_SOURCE,
+        fields::K35_TIMESTAMP_INDEX,
+        timestamp_index.code(),
+    );
+    put_plain(
+        &mut cmd,
+        fields::K35_TIMESTAMP_SOURCE,
         timestamp_source.code(),
     );
     cmd
@@ -365,8 +369,8 @@ pub fn set_cca_cmd(duration: u32) -> [u8; 5]
     ensures { λ r. ⌜ r ≡ plain 36 (duration ∷ []) ⌝ }
 {
     let mut cmd = [0u8; 5];
-    put_plain(&mut cmd, OPCODE, cells::K36_OP);
-    put_plain(&mut cmd, cells::K36_DURATION, duration as u64);
+    put_plain(&mut cmd, OPCODE, fields::K36_OP);
+    put_plain(&mut cmd, fields::K36_DURATION, duration as u64);
     cmd
 }
 
@@ -375,9 +379,9 @@ pub fn set_cca_adv_cmd(duration: u32, gain: u8) -> [u8; 6]
     ensures { λ r. ⌜ r ≡ plain 37 (duration ∷ gain ∷ []) ⌝ }
 {
     let mut cmd = [0u8; 6];
-    put_plain(&mut cmd, OPCODE, cells::K37_OP);
-    put_plain(&mut cmd, cells::K37_DURATION, duration as u64);
-    put_plain(&mut cmd, cells::K37_GAIN, gain as u64);
+    put_plain(&mut cmd, OPCODE, fields::K37_OP);
+    put_plain(&mut cmd, fields::K37_DURATION, duration as u64);
+    put_plain(&mut cmd, fields::K37_GAIN, gain as u64);
     cmd
 }
 
@@ -386,8 +390,8 @@ pub fn set_agc_gain_manual_cmd(gain_step: u8) -> [u8; 3]
     ensures { λ r. ⌜ r ≡ plain 38 («gain_step» ∷ []) ⌝ }
 {
     let mut cmd = [0u8; 3];
-    put_plain(&mut cmd, OPCODE, cells::K38_OP);
-    put_plain(&mut cmd, cells::K38_GAIN_STEP, gain_step as u64);
+    put_plain(&mut cmd, OPCODE, fields::K38_OP);
+    put_plain(&mut cmd, fields::K38_GAIN_STEP, gain_step as u64);
     cmd
 }
 
@@ -401,10 +405,10 @@ pub fn set_cad_params_cmd(
     ensures { λ r. ⌜ r ≡ plain 39 («cad_timeout» ∷ threshold ∷ cadExitModeCode «exit_mode» ∷ «trx_timeout» ∷ []) ⌝ }
 {
     let mut cmd = [0u8; 10];
-    put_plain(&mut cmd, OPCODE, cells::K39_OP);
-    put_plain(&mut cmd, cells::K39_CAD_TIMEOUT, cad_timeout as u64);
-    put_plain(&mut cmd, cells::K39_THRESHOLD, threshold as u64);
-    put_plain(&mut cmd, cells::K39_EXIT_MODE, exit_mode.code());
-    put_plain(&mut cmd, cells::K39_TRX_TIMEOUT, trx_timeout as u64);
+    put_plain(&mut cmd, OPCODE, fields::K39_OP);
+    put_plain(&mut cmd, fields::K39_CAD_TIMEOUT, cad_timeout as u64);
+    put_plain(&mut cmd, fields::K39_THRESHOLD, threshold as u64);
+    put_plain(&mut cmd, fields::K39_EXIT_MODE, exit_mode.code());
+    put_plain(&mut cmd, fields::K39_TRX_TIMEOUT, trx_timeout as u64);
     cmd
 }

@@ -5,10 +5,10 @@ ghost use Rattle.table.specs.Table.{plain, yesNo};
 ghost use Rattle.cmd_fsk.specs.Codes.{pulseShapeCode, rxBwCode, pblLenDetectCode, pldLenUnitCode};
 ghost use Rattle.cmd_fsk.specs.Codes.{addrCompCode, fskPktFormatCode, crcCode, whitenTypeCode, bitOrderCode};
 use table::OPCODE;
+use table::fields;
 use table::put_plain;
 use table::yes_no;
 
-mod cells;
 pub mod rsp;
 
 pub use rsp::FskPacketStatusRead;
@@ -411,11 +411,11 @@ pub fn set_fsk_modulation_params_cmd(
     ensures { λ r. ⌜ r ≡ plain 16 (bitrate ∷ pulseShapeCode «pulse_shape» ∷ rxBwCode «rx_bw» ∷ fdev ∷ []) ⌝ }
 {
     let mut cmd = [0u8; 11];
-    put_plain(&mut cmd, OPCODE, cells::K16_OP);
-    put_plain(&mut cmd, cells::K16_BITRATE, bitrate as u64);
-    put_plain(&mut cmd, cells::K16_PULSE_SHAPE, pulse_shape.code());
-    put_plain(&mut cmd, cells::K16_RX_BW, rx_bw.code());
-    put_plain(&mut cmd, cells::K16_FDEV, fdev as u64);
+    put_plain(&mut cmd, OPCODE, fields::K16_OP);
+    put_plain(&mut cmd, fields::K16_BITRATE, bitrate as u64);
+    put_plain(&mut cmd, fields::K16_PULSE_SHAPE, pulse_shape.code());
+    put_plain(&mut cmd, fields::K16_RX_BW, rx_bw.code());
+    put_plain(&mut cmd, fields::K16_FDEV, fdev as u64);
     cmd
 }
 
@@ -434,16 +434,16 @@ pub fn set_fsk_packet_params_cmd(
     ensures { λ r. ⌜ r ≡ plain 17 («pbl_len_tx» ∷ pblLenDetectCode «pbl_len_detect» ∷ yesNo «pbl_long» ∷ pldLenUnitCode «pld_len_unit» ∷ addrCompCode «addr_comp» ∷ fskPktFormatCode «fsk_pkt_format» ∷ «pld_len» ∷ crcCode crc ∷ yesNo «dc_free» ∷ []) ⌝ }
 {
     let mut cmd = [0u8; 9];
-    put_plain(&mut cmd, OPCODE, cells::K17_OP);
-    put_plain(&mut cmd, cells::K17_PBL_LEN_TX, pbl_len_tx as u64);
-    put_plain(&mut cmd, cells::K17_PBL_LEN_DETECT, pbl_len_detect.code());
-    put_plain(&mut cmd, cells::K17_PBL_LONG, yes_no(pbl_long));
-    put_plain(&mut cmd, cells::K17_PLD_LEN_UNIT, pld_len_unit.code());
-    put_plain(&mut cmd, cells::K17_ADDR_COMP, addr_comp.code());
-    put_plain(&mut cmd, cells::K17_FSK_PKT_FORMAT, fsk_pkt_format.code());
-    put_plain(&mut cmd, cells::K17_PLD_LEN, pld_len as u64);
-    put_plain(&mut cmd, cells::K17_CRC, crc.code());
-    put_plain(&mut cmd, cells::K17_DC_FREE, yes_no(dc_free));
+    put_plain(&mut cmd, OPCODE, fields::K17_OP);
+    put_plain(&mut cmd, fields::K17_PBL_LEN_TX, pbl_len_tx as u64);
+    put_plain(&mut cmd, fields::K17_PBL_LEN_DETECT, pbl_len_detect.code());
+    put_plain(&mut cmd, fields::K17_PBL_LONG, yes_no(pbl_long));
+    put_plain(&mut cmd, fields::K17_PLD_LEN_UNIT, pld_len_unit.code());
+    put_plain(&mut cmd, fields::K17_ADDR_COMP, addr_comp.code());
+    put_plain(&mut cmd, fields::K17_FSK_PKT_FORMAT, fsk_pkt_format.code());
+    put_plain(&mut cmd, fields::K17_PLD_LEN, pld_len as u64);
+    put_plain(&mut cmd, fields::K17_CRC, crc.code());
+    put_plain(&mut cmd, fields::K17_DC_FREE, yes_no(dc_free));
     cmd
 }
 
@@ -452,9 +452,9 @@ pub fn set_fsk_whitening_params_cmd(whiten_type: WhitenType, init: u16) -> [u8; 
     ensures { λ r. ⌜ r ≡ plain 18 (whitenTypeCode «whiten_type» ∷ init ∷ []) ⌝ }
 {
     let mut cmd = [0u8; 4];
-    put_plain(&mut cmd, OPCODE, cells::K18_OP);
-    put_plain(&mut cmd, cells::K18_WHITEN_TYPE, whiten_type.code());
-    put_plain(&mut cmd, cells::K18_INIT, init as u64);
+    put_plain(&mut cmd, OPCODE, fields::K18_OP);
+    put_plain(&mut cmd, fields::K18_WHITEN_TYPE, whiten_type.code());
+    put_plain(&mut cmd, fields::K18_INIT, init as u64);
     cmd
 }
 
@@ -463,9 +463,9 @@ pub fn set_fsk_crc_params_cmd(polynom: u32, init: u32) -> [u8; 10]
     ensures { λ r. ⌜ r ≡ plain 19 (polynom ∷ init ∷ []) ⌝ }
 {
     let mut cmd = [0u8; 10];
-    put_plain(&mut cmd, OPCODE, cells::K19_OP);
-    put_plain(&mut cmd, cells::K19_POLYNOM, polynom as u64);
-    put_plain(&mut cmd, cells::K19_INIT, init as u64);
+    put_plain(&mut cmd, OPCODE, fields::K19_OP);
+    put_plain(&mut cmd, fields::K19_POLYNOM, polynom as u64);
+    put_plain(&mut cmd, fields::K19_INIT, init as u64);
     cmd
 }
 
@@ -474,10 +474,10 @@ pub fn set_fsk_sync_word_cmd(syncword: u64, bit_order: BitOrder, nb_bits: u8) ->
     ensures { λ r. ⌜ r ≡ plain 20 (syncword ∷ bitOrderCode «bit_order» ∷ «nb_bits» ∷ []) ⌝ }
 {
     let mut cmd = [0u8; 11];
-    put_plain(&mut cmd, OPCODE, cells::K20_OP);
-    put_plain(&mut cmd, cells::K20_SYNCWORD, syncword);
-    put_plain(&mut cmd, cells::K20_BIT_ORDER, bit_order.code());
-    put_plain(&mut cmd, cells::K20_NB_BITS, nb_bits as u64);
+    put_plain(&mut cmd, OPCODE, fields::K20_OP);
+    put_plain(&mut cmd, fields::K20_SYNCWORD, syncword);
+    put_plain(&mut cmd, fields::K20_BIT_ORDER, bit_order.code());
+    put_plain(&mut cmd, fields::K20_NB_BITS, nb_bits as u64);
     cmd
 }
 
@@ -486,9 +486,9 @@ pub fn set_fsk_address_cmd(addr_node: u8, addr_bcast: u8) -> [u8; 4]
     ensures { λ r. ⌜ r ≡ plain 21 («addr_node» ∷ «addr_bcast» ∷ []) ⌝ }
 {
     let mut cmd = [0u8; 4];
-    put_plain(&mut cmd, OPCODE, cells::K21_OP);
-    put_plain(&mut cmd, cells::K21_ADDR_NODE, addr_node as u64);
-    put_plain(&mut cmd, cells::K21_ADDR_BCAST, addr_bcast as u64);
+    put_plain(&mut cmd, OPCODE, fields::K21_OP);
+    put_plain(&mut cmd, fields::K21_ADDR_NODE, addr_node as u64);
+    put_plain(&mut cmd, fields::K21_ADDR_BCAST, addr_bcast as u64);
     cmd
 }
 
@@ -497,7 +497,7 @@ pub fn get_fsk_rx_stats_req() -> [u8; 2]
     ensures { λ r. ⌜ r ≡ plain 22 [] ⌝ }
 {
     let mut cmd = [0u8; 2];
-    put_plain(&mut cmd, OPCODE, cells::K22_OP);
+    put_plain(&mut cmd, OPCODE, fields::K22_OP);
     cmd
 }
 
@@ -506,6 +506,6 @@ pub fn get_fsk_packet_status_req() -> [u8; 2]
     ensures { λ r. ⌜ r ≡ plain 23 [] ⌝ }
 {
     let mut cmd = [0u8; 2];
-    put_plain(&mut cmd, OPCODE, cells::K23_OP);
+    put_plain(&mut cmd, OPCODE, fields::K23_OP);
     cmd
 }

@@ -6,10 +6,10 @@ ghost use Rattle.cmd_lora.specs.Codes.{sfCode, loraBwCode, loraCrCode, l
 ghost use Rattle.cmd_lora.specs.Codes.{headerTypeCode, timeoutFormatCode, loraCadExitModeCode, addrLenCode, timingSyncModeCode};
 ghost use Rattle.cmd_lora.specs.Methods.{hzOf, isFractional, isLi, denominatorOf, ordered};
 use table::OPCODE;
+use table::fields;
 use table::put_plain;
 use table::yes_no;
 
-mod cells;
 pub mod rsp;
 
 pub use rsp::LoraPacketStatusRead;
@@ -394,12 +394,12 @@ pub fn set_lora_modulation_params_cmd(
     ensures { λ r. ⌜ r ≡ plain 1 (sfCode sf ∷ loraBwCode «lora_bw» ∷ loraCrCode «lora_cr» ∷ ldroCode ldro ∷ loraFilterCode «lora_filter» ∷ []) ⌝ }
 {
     let mut cmd = [0u8; 4];
-    put_plain(&mut cmd, OPCODE, cells::K1_OP);
-    put_plain(&mut cmd, cells::K1_SF, sf.code());
-    put_plain(&mut cmd, cells::K1_LORA_BW, lora_bw.code());
-    put_plain(&mut cmd, cells::K1_LORA_CR, lora_cr.code());
-    put_plain(&mut cmd, cells::K1_LDRO, ldro.code());
-    put_plain(&mut cmd, cells::K1_LORA_FILTER, lora_filter.code());
+    put_plain(&mut cmd, OPCODE, fields::K1_OP);
+    put_plain(&mut cmd, fields::K1_SF, sf.code());
+    put_plain(&mut cmd, fields::K1_LORA_BW, lora_bw.code());
+    put_plain(&mut cmd, fields::K1_LORA_CR, lora_cr.code());
+    put_plain(&mut cmd, fields::K1_LDRO, ldro.code());
+    put_plain(&mut cmd, fields::K1_LORA_FILTER, lora_filter.code());
     cmd
 }
 
@@ -414,12 +414,12 @@ pub fn set_lora_packet_params_cmd(
     ensures { λ r. ⌜ r ≡ plain 2 («pbl_len» ∷ «payload_len» ∷ headerTypeCode «header_type» ∷ yesNo «crc_en» ∷ yesNo «invert_iq» ∷ []) ⌝ }
 {
     let mut cmd = [0u8; 6];
-    put_plain(&mut cmd, OPCODE, cells::K2_OP);
-    put_plain(&mut cmd, cells::K2_PBL_LEN, pbl_len as u64);
-    put_plain(&mut cmd, cells::K2_PAYLOAD_LEN, payload_len as u64);
-    put_plain(&mut cmd, cells::K2_HEADER_TYPE, header_type.code());
-    put_plain(&mut cmd, cells::K2_CRC_EN, yes_no(crc_en));
-    put_plain(&mut cmd, cells::K2_INVERT_IQ, yes_no(invert_iq));
+    put_plain(&mut cmd, OPCODE, fields::K2_OP);
+    put_plain(&mut cmd, fields::K2_PBL_LEN, pbl_len as u64);
+    put_plain(&mut cmd, fields::K2_PAYLOAD_LEN, payload_len as u64);
+    put_plain(&mut cmd, fields::K2_HEADER_TYPE, header_type.code());
+    put_plain(&mut cmd, fields::K2_CRC_EN, yes_no(crc_en));
+    put_plain(&mut cmd, fields::K2_INVERT_IQ, yes_no(invert_iq));
     cmd
 }
 
@@ -428,9 +428,9 @@ pub fn set_lora_synch_timeout_cmd(symbols: u8, timeout_format: TimeoutFormat) ->
     ensures { λ r. ⌜ r ≡ plain 3 (symbols ∷ timeoutFormatCode «timeout_format» ∷ []) ⌝ }
 {
     let mut cmd = [0u8; 4];
-    put_plain(&mut cmd, OPCODE, cells::K3_OP);
-    put_plain(&mut cmd, cells::K3_SYMBOLS, symbols as u64);
-    put_plain(&mut cmd, cells::K3_TIMEOUT_FORMAT, timeout_format.code());
+    put_plain(&mut cmd, OPCODE, fields::K3_OP);
+    put_plain(&mut cmd, fields::K3_SYMBOLS, symbols as u64);
+    put_plain(&mut cmd, fields::K3_TIMEOUT_FORMAT, timeout_format.code());
     cmd
 }
 
@@ -439,8 +439,8 @@ pub fn set_lora_syncword_cmd(syncword: u8) -> [u8; 3]
     ensures { λ r. ⌜ r ≡ plain 4 (syncword ∷ []) ⌝ }
 {
     let mut cmd = [0u8; 3];
-    put_plain(&mut cmd, OPCODE, cells::K4_OP);
-    put_plain(&mut cmd, cells::K4_SYNCWORD, syncword as u64);
+    put_plain(&mut cmd, OPCODE, fields::K4_OP);
+    put_plain(&mut cmd, fields::K4_SYNCWORD, syncword as u64);
     cmd
 }
 
@@ -454,11 +454,11 @@ pub fn config_lora_preamble_modulation_cmd(
     ensures { λ r. ⌜ r ≡ plain 5 (yesNo «pmod_en» ∷ «dram_ret» ∷ «wakeup_time» ∷ «min_sleep_time» ∷ []) ⌝ }
 {
     let mut cmd = [0u8; 8];
-    put_plain(&mut cmd, OPCODE, cells::K5_OP);
-    put_plain(&mut cmd, cells::K5_PMOD_EN, yes_no(pmod_en));
-    put_plain(&mut cmd, cells::K5_DRAM_RET, dram_ret as u64);
-    put_plain(&mut cmd, cells::K5_WAKEUP_TIME, wakeup_time as u64);
-    put_plain(&mut cmd, cells::K5_MIN_SLEEP_TIME, min_sleep_time as u64);
+    put_plain(&mut cmd, OPCODE, fields::K5_OP);
+    put_plain(&mut cmd, fields::K5_PMOD_EN, yes_no(pmod_en));
+    put_plain(&mut cmd, fields::K5_DRAM_RET, dram_ret as u64);
+    put_plain(&mut cmd, fields::K5_WAKEUP_TIME, wakeup_time as u64);
+    put_plain(&mut cmd, fields::K5_MIN_SLEEP_TIME, min_sleep_time as u64);
     cmd
 }
 
@@ -477,16 +477,16 @@ pub fn config_lora_preamble_modulation_adv_cmd(
     ensures { λ r. ⌜ r ≡ plain 6 (yesNo «pmod_en» ∷ «dram_ret» ∷ «wakeup_time» ∷ «min_sleep_time» ∷ «err_thr» ∷ «min_sym» ∷ «detect_time_sym» ∷ «start_offset» ∷ «end_offset» ∷ []) ⌝ }
 {
     let mut cmd = [0u8; 12];
-    put_plain(&mut cmd, OPCODE, cells::K6_OP);
-    put_plain(&mut cmd, cells::K6_PMOD_EN, yes_no(pmod_en));
-    put_plain(&mut cmd, cells::K6_DRAM_RET, dram_ret as u64);
-    put_plain(&mut cmd, cells::K6_WAKEUP_TIME, wakeup_time as u64);
-    put_plain(&mut cmd, cells::K6_MIN_SLEEP_TIME, min_sleep_time as u64);
-    put_plain(&mut cmd, cells::K6_ERR_THR, err_thr as u64);
-    put_plain(&mut cmd, cells::K6_MIN_SYM, min_sym as u64);
-    put_plain(&mut cmd, cells::K6_DETECT_TIME_SYM, detect_time_sym as u64);
-    put_plain(&mut cmd, cells::K6_START_OFFSET, start_offset as u64);
-    put_plain(&mut cmd, cells::K6_END_OFFSET, end_offset as u64);
+    put_plain(&mut cmd, OPCODE, fields::K6_OP);
+    put_plain(&mut cmd, fields::K6_PMOD_EN, yes_no(pmod_en));
+    put_plain(&mut cmd, fields::K6_DRAM_RET, dram_ret as u64);
+    put_plain(&mut cmd, fields::K6_WAKEUP_TIME, wakeup_time as u64);
+    put_plain(&mut cmd, fields::K6_MIN_SLEEP_TIME, min_sleep_time as u64);
+    put_plain(&mut cmd, fields::K6_ERR_THR, err_thr as u64);
+    put_plain(&mut cmd, fields::K6_MIN_SYM, min_sym as u64);
+    put_plain(&mut cmd, fields::K6_DETECT_TIME_SYM, detect_time_sym as u64);
+    put_plain(&mut cmd, fields::K6_START_OFFSET, start_offset as u64);
+    put_plain(&mut cmd, fields::K6_END_OFFSET, end_offset as u64);
     cmd
 }
 
@@ -502,13 +502,13 @@ pub fn set_lora_cad_params_cmd(
     ensures { λ r. ⌜ r ≡ plain 7 («nb_symbols» ∷ yesNo «pbl_any» ∷ «pnr_delta» ∷ loraCadExitModeCode «exit_mode» ∷ timeout ∷ «det_peak» ∷ []) ⌝ }
 {
     let mut cmd = [0u8; 9];
-    put_plain(&mut cmd, OPCODE, cells::K7_OP);
-    put_plain(&mut cmd, cells::K7_NB_SYMBOLS, nb_symbols as u64);
-    put_plain(&mut cmd, cells::K7_PBL_ANY, yes_no(pbl_any));
-    put_plain(&mut cmd, cells::K7_PNR_DELTA, pnr_delta as u64);
-    put_plain(&mut cmd, cells::K7_EXIT_MODE, exit_mode.code());
-    put_plain(&mut cmd, cells::K7_TIMEOUT, timeout as u64);
-    put_plain(&mut cmd, cells::K7_DET_PEAK, det_peak as u64);
+    put_plain(&mut cmd, OPCODE, fields::K7_OP);
+    put_plain(&mut cmd, fields::K7_NB_SYMBOLS, nb_symbols as u64);
+    put_plain(&mut cmd, fields::K7_PBL_ANY, yes_no(pbl_any));
+    put_plain(&mut cmd, fields::K7_PNR_DELTA, pnr_delta as u64);
+    put_plain(&mut cmd, fields::K7_EXIT_MODE, exit_mode.code());
+    put_plain(&mut cmd, fields::K7_TIMEOUT, timeout as u64);
+    put_plain(&mut cmd, fields::K7_DET_PEAK, det_peak as u64);
     cmd
 }
 
@@ -517,7 +517,7 @@ pub fn set_lora_cad_cmd() -> [u8; 2]
     ensures { λ r. ⌜ r ≡ plain 8 [] ⌝ }
 {
     let mut cmd = [0u8; 2];
-    put_plain(&mut cmd, OPCODE, cells::K8_OP);
+    put_plain(&mut cmd, OPCODE, fields::K8_OP);
     cmd
 }
 
@@ -526,7 +526,7 @@ pub fn get_lora_rx_stats_req() -> [u8; 2]
     ensures { λ r. ⌜ r ≡ plain 9 [] ⌝ }
 {
     let mut cmd = [0u8; 2];
-    put_plain(&mut cmd, OPCODE, cells::K9_OP);
+    put_plain(&mut cmd, OPCODE, fields::K9_OP);
     cmd
 }
 
@@ -535,7 +535,7 @@ pub fn get_lora_packet_status_req() -> [u8; 2]
     ensures { λ r. ⌜ r ≡ plain 10 [] ⌝ }
 {
     let mut cmd = [0u8; 2];
-    put_plain(&mut cmd, OPCODE, cells::K10_OP);
+    put_plain(&mut cmd, OPCODE, fields::K10_OP);
     cmd
 }
 
@@ -544,10 +544,10 @@ pub fn set_lora_address_cmd(addr_len: AddrLen, addr_pos: u8, addr: u64) -> [u8; 
     ensures { λ r. ⌜ r ≡ plain 11 (addrLenCode «addr_len» ∷ «addr_pos» ∷ addr ∷ []) ⌝ }
 {
     let mut cmd = [0u8; 11];
-    put_plain(&mut cmd, OPCODE, cells::K11_OP);
-    put_plain(&mut cmd, cells::K11_ADDR_LEN, addr_len.code());
-    put_plain(&mut cmd, cells::K11_ADDR_POS, addr_pos as u64);
-    put_plain(&mut cmd, cells::K11_ADDR, addr);
+    put_plain(&mut cmd, OPCODE, fields::K11_OP);
+    put_plain(&mut cmd, fields::K11_ADDR_LEN, addr_len.code());
+    put_plain(&mut cmd, fields::K11_ADDR_POS, addr_pos as u64);
+    put_plain(&mut cmd, fields::K11_ADDR, addr);
     cmd
 }
 
@@ -556,9 +556,9 @@ pub fn set_lora_syncword_extended_cmd(sync1: u8, sync2: u8) -> [u8; 4]
     ensures { λ r. ⌜ r ≡ plain 12 (sync1 ∷ sync2 ∷ []) ⌝ }
 {
     let mut cmd = [0u8; 4];
-    put_plain(&mut cmd, OPCODE, cells::K12_OP);
-    put_plain(&mut cmd, cells::K12_SYNC1, sync1 as u64);
-    put_plain(&mut cmd, cells::K12_SYNC2, sync2 as u64);
+    put_plain(&mut cmd, OPCODE, fields::K12_OP);
+    put_plain(&mut cmd, fields::K12_SYNC1, sync1 as u64);
+    put_plain(&mut cmd, fields::K12_SYNC2, sync2 as u64);
     cmd
 }
 
@@ -574,13 +574,13 @@ pub fn set_lora_side_det_syncword_extended_cmd(
     ensures { λ r. ⌜ r ≡ plain 13 («sd1_sw1» ∷ «sd1_sw2» ∷ «sd2_sw1» ∷ «sd2_sw2» ∷ «sd3_sw1» ∷ «sd3_sw2» ∷ []) ⌝ }
 {
     let mut cmd = [0u8; 8];
-    put_plain(&mut cmd, OPCODE, cells::K13_OP);
-    put_plain(&mut cmd, cells::K13_SD1_SW1, sd1_sw1 as u64);
-    put_plain(&mut cmd, cells::K13_SD1_SW2, sd1_sw2 as u64);
-    put_plain(&mut cmd, cells::K13_SD2_SW1, sd2_sw1 as u64);
-    put_plain(&mut cmd, cells::K13_SD2_SW2, sd2_sw2 as u64);
-    put_plain(&mut cmd, cells::K13_SD3_SW1, sd3_sw1 as u64);
-    put_plain(&mut cmd, cells::K13_SD3_SW2, sd3_sw2 as u64);
+    put_plain(&mut cmd, OPCODE, fields::K13_OP);
+    put_plain(&mut cmd, fields::K13_SD1_SW1, sd1_sw1 as u64);
+    put_plain(&mut cmd, fields::K13_SD1_SW2, sd1_sw2 as u64);
+    put_plain(&mut cmd, fields::K13_SD2_SW1, sd2_sw1 as u64);
+    put_plain(&mut cmd, fields::K13_SD2_SW2, sd2_sw2 as u64);
+    put_plain(&mut cmd, fields::K13_SD3_SW1, sd3_sw1 as u64);
+    put_plain(&mut cmd, fields::K13_SD3_SW2, sd3_sw2 as u64);
     cmd
 }
 
@@ -589,13 +589,13 @@ pub fn set_lora_tx_sync_cmd(timing_sync_mode: TimingSyncMode, dio_num: u8) -> [u
     ensures { λ r. ⌜ r ≡ plain 14 (timingSyncModeCode «timing_sync_mode» ∷ «dio_num» ∷ []) ⌝ }
 {
     let mut cmd = [0u8; 3];
-    put_plain(&mut cmd, OPCODE, cells::K14_OP);
+    put_plain(&mut cmd, OPCODE, fields::K14_OP);
     put_plain(
         &mut cmd,
-        cells::K14_TIMING_SYNC_MODE,
+        fields::K14_TIMING_SYNC_MODE,
         timing_sync_mode.code(),
     );
-    put_plain(&mut cmd, cells::K14_DIO_NUM, dio_num as u64);
+    put_plain(&mut cmd, fields::K14_DIO_NUM, dio_num as u64);
     cmd
 }
 
@@ -610,11 +610,11 @@ pub fn set_lora_blanking_cmd(
     ensures { λ r. ⌜ r ≡ plain 15 («thr_gain» ∷ thr ∷ «lvl_gain» ∷ yesNo detect ∷ «rssi_thr» ∷ []) ⌝ }
 {
     let mut cmd = [0u8; 4];
-    put_plain(&mut cmd, OPCODE, cells::K15_OP);
-    put_plain(&mut cmd, cells::K15_THR_GAIN, thr_gain as u64);
-    put_plain(&mut cmd, cells::K15_THR, thr as u64);
-    put_plain(&mut cmd, cells::K15_LVL_GAIN, lvl_gain as u64);
-    put_plain(&mut cmd, cells::K15_DETECT, yes_no(detect));
-    put_plain(&mut cmd, cells::K15_RSSI_THR, rssi_thr as u64);
+    put_plain(&mut cmd, OPCODE, fields::K15_OP);
+    put_plain(&mut cmd, fields::K15_THR_GAIN, thr_gain as u64);
+    put_plain(&mut cmd, fields::K15_THR, thr as u64);
+    put_plain(&mut cmd, fields::K15_LVL_GAIN, lvl_gain as u64);
+    put_plain(&mut cmd, fields::K15_DETECT, yes_no(detect));
+    put_plain(&mut cmd, fields::K15_RSSI_THR, rssi_thr as u64);
     cmd
 }

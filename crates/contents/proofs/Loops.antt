@@ -4,10 +4,11 @@
 use mathlib.Core.Path.{ap, refl, sym, _∙_, _≡_}
 use mathlib.Core.Bool.{Bool, cond, false, true}
 use mathlib.Core.List.{List, [], _∷_}
-use Prim.Native.Nat.{suc, zero, ℕ, _*_, _+_, _-_, _<_, _≤_}
+use Prim.Native.Nat.{suc, zero, ℕ, _%_, _*_, _+_, _-_, _<_, _≤_}
 use native.Mathlib.Numerals.{add-one}
 use native.Mathlib.Omega.{arith}
 use borrow.Author.Tests.{eq-eqb, le-leb, le-ltb, leb-true, lt-leb, lt-ltb, ne-eqb}
+use lib.Bits.{and-le-r, bitOr, or-add-and, or-zero-l}
 use lib.Dec.{eqb, leb}
 use lib.ListN.{drop, drop-of-length-le, getD, length, take}
 use lib.Seq.{drop-cons}
@@ -52,6 +53,11 @@ framesFrom-step m n b p e i h =
     ap (λ (x : ℕ). verdictOf (framesFrom m x b p e)) (minus-step n i h)
     ∙ verdict-step (eqb (lengthAt m b p e) 0) (take (lengthAt m b p e) (drop p b)) (framesFrom m (n - (i + 1)) b (p + lengthAt m b p e) e)
 
+-- the second byte of a slot's offset is its low one
+pub offset-low : (b : List ℕ) (k p : ℕ) → getD b (4 + 2 * k + 1) 0 < 256 → offsetAt b k ≡ p → getD b (4 + 2 * k + 1) 0 ≡ p % 256
+unfolding offsetAt wordAt
+offset-low b k p h e = omega arith
+
 pub slotFrom-found : (n : ℕ) (b : List ℕ) (p k : ℕ) → k < n → offsetAt b k ≡ p → slotFrom (n - k) b p k ≡ k
 slotFrom-found n b p k h e = slotFrom-step n b p k h ∙ rw (eq-eqb _ _ e)
 
@@ -72,15 +78,21 @@ pub presentFrom-end : (n : ℕ) (b : List ℕ) (k : ℕ) → n ≤ k → present
 unfolding presentFrom
 presentFrom-end n b k h = ap (λ (m : ℕ). presentFrom m b k) (minus-end n k h)
 
-pub allZero-stop : (b : List ℕ) (i : ℕ) → i < length b → (getD b i 0 ≡ 0 → ⊥) → allZero (drop i b) ≡ false
-allZero-stop b i h e = allZero-step b i h ∙ rw (ne-eqb _ _ e)
+-- no byte was other than 0 where the bits of all of them, joined, are none
+pub allZero-join : (b : List ℕ) (a i : ℕ) → i < length b
+    → cond (eqb a 0) (allZero (drop i b)) false ≡ cond (eqb (bitOr a (getD b i 0)) 0) (allZero (drop (i + 1) b)) false
+allZero-join b zero i h = allZero-step b i h ∙ rw (or-zero-l (getD b i 0))
+allZero-join b (suc a) i h =
+    let x = getD b i 0 in
+    rw (ne-eqb (suc a) 0 (λ e. omega arith), ne-eqb (bitOr (suc a) x) 0 (λ e. omega (arith, or-add-and (suc a) x, and-le-r (suc a) x)))
 
-pub allZero-pass : (b : List ℕ) (i : ℕ) → i < length b → getD b i 0 ≡ 0 → allZero (drop i b) ≡ allZero (drop (i + 1) b)
-allZero-pass b i h e = allZero-step b i h ∙ rw (eq-eqb _ _ e)
-
-pub allZero-end : (b : List ℕ) (i : ℕ) → length b ≤ i → allZero (drop i b) ≡ true
+pub allZero-end : (b : List ℕ) (a i : ℕ) → length b ≤ i → cond (eqb a 0) (allZero (drop i b)) false ≡ eqb a 0
 unfolding allZero
-allZero-end b i h = ap allZero (drop-of-length-le b h)
+allZero-end b a i h = ap (λ (t : List ℕ). cond (eqb a 0) (allZero t) false) (drop-of-length-le b h) ∙ itself (eqb a 0)
+  where
+    itself : (t : Bool) → cond t true false ≡ t
+    itself true = refl
+    itself false = refl
 
 pub framesFrom-stop : (m n : ℕ) (b : List ℕ) (p e i : ℕ) → i < n → lengthAt m b p e ≡ 0 → verdictOf (framesFrom m (n - i) b p e) ≡ Refused NotWellFormed
 framesFrom-stop m n b p e i h z = framesFrom-step m n b p e i h ∙ rw (eq-eqb _ _ z)

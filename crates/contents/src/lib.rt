@@ -68,15 +68,18 @@ fn offset_in(b: &[u8], slot: usize) -> usize
     hi * 256 + lo
 }
 
-// The first slot whose offset is p; `slots` where there is none.
+// The first slot whose offset is p; `slots` where there is none. One byte rules most slots out, so the low one is compared first.
 fn slot_from(b: &[u8], slots: usize, p: usize) -> usize
     requires { ⌜ start slots ≤ length (now b) ⌝ }
     ensures { λ r. ⌜ (r ≡ slotFrom slots (now (b .entry)) p 0) × (r ≤ slots) ⌝ }
 {
+    let low = (p % 256) as u8;
     let mut s: usize = 0;
     while s < slots {
-        if offset_in(b, s) == p {
-            return s;
+        if b[4 + 2 * s + 1] == low {
+            if offset_in(b, s) == p {
+                return s;
+            }
         }
         s += 1;
     }
@@ -153,18 +156,18 @@ fn tiles(b: &[u8], slots: usize, c: usize, e: usize) -> Verdict
     Verdict::Refused(Refusal::NotWellFormed)
 }
 
+// Whether every byte from e on is 0. Their bits are joined, with no early end, so that the compiler looks at many bytes at a time.
 fn tail_zero(b: &[u8], e: usize) -> bool
     requires { ⌜ e ≤ length (now b) ⌝ }
     ensures { λ r. ⌜ r ≡ allZero (drop e (now (b .entry))) ⌝ }
 {
+    let mut bits: u8 = 0;
     let mut i = e;
     while i < b.len() {
-        if b[i] != 0 {
-            return false;
-        }
+        bits = bits | b[i];
         i += 1;
     }
-    true
+    bits == 0
 }
 
 // ---- the whole buffer

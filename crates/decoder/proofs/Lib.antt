@@ -5,5 +5,6 @@ pub mod Fields
 pub mod Clean
 pub mod Seeking
 pub mod Returns
+pub mod Arms
 pub mod Handed
 pub mod Outcome

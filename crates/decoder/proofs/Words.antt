@@ -2,22 +2,23 @@
 -- it; and where each word lies under the word of masks, no byte has a stray bit. Assumes nothing.
 use mathlib.Core.Path.{_≡_, refl, sym, ap, ap₂, _∙_, subst}
 use mathlib.Core.Logic.{⊎-elim}
-use mathlib.Core.Bool.{Bool, true, false, cond}
+use mathlib.Core.Bool.{Bool, true, false, cond, _&&_}
 use mathlib.Core.List.{List, [], _∷_}
-use Prim.Native.Nat.{ℕ, zero, suc, _+_, _-_, _*_, _/_, _%_, _^_, _≤_, _<_, min}
+use Prim.Native.Nat.{ℕ, zero, suc, _+_, _-_, _*_, _/_, _%_, _^_, _≤_, _<_}
 use native.Mathlib.Nat.{mod-one, div-one, mod-eq-of-lt, zero-add, add-zero, add-suc, add-comm, add-assoc, mul-assoc, add-mul-mod-self-right, lt-of-lt-of-le}
 use native.Mathlib.Nat.{eq-or-lt-of-le, le-of-suc-le-suc, not-suc-le-zero}
 use native.Mathlib.Omega.{arith}
-use borrow.Author.Tests.{le-leb, lt-leb, lt-ltb, le-ltb}
-use lib.Pow.{pow-pos, pow-mono, pow-add, shl-lt, ones-lt, shr-shr, high, low, field, mod-pow-add, mod-mod-pow}
-use lib.Bits.{bitAnd, bitOr, and-block, and-le-l, and-zero-l, or-lt}
-use lib.Dec.{T, leb, ltb}
+use borrow.Author.Tests.{le-leb, lt-leb, lt-ltb, le-ltb, ne-eqb}
+use lib.Pow.{pow-mono, pow-add, shl-lt, ones-lt, shr-shr, high, low, field, mod-pow-add, mod-mod-pow}
+use lib.Bits.{bitAnd, and-block, and-le-l, and-zero-l, or-lt}
+use lib.Dec.{T, eqb, leb, ltb, leb→le}
 use Rattle.frame.specs.declared.Field.{Field}
 use Rattle.frame.specs.Field.{size, holds, rank, bits, mask, digit, readTo, read, sound, Sound}
 use Rattle.frame.specs.Layout.{maskOf, soundAll}
 use Rattle.frame.proofs.OneField.{le-or-lt, top, top-all}
 use Rattle.frame.proofs.Fields.{both-left, both-right, sound-is}
-use Rattle.decoder.specs.Words.{bigEnd, from, firstWord, lastWord, heldByte}
+use Rattle.table.specs.Number.{narrowOf}
+use Rattle.decoder.specs.Words.{bigEnd, from, firstWord, lastWord, heldByte, inWord, reached}
 
 -- ---- the number of some bytes
 
@@ -102,7 +103,7 @@ last-byte x y m lo h =
     ∙ add-mul-mod-self-right y (x * 2 ^ (8 - t)) (2 ^ t))
     ∙ field y m lo
 
-module _ (f : Field) (s : Sound 16 f) (high-first : f .le ≡ false) (b : ℕ → ℕ) (small : (i : ℕ) → b i < 256) where
+module _ (m : ℕ) (f : Field) (s : Sound m f) (high-first : f .le ≡ false) (b : ℕ → ℕ) (small : (i : ℕ) → b i < 256) where
   -- the number of the bytes up to the field's last, without the bits below the field
   abbrev v : ℕ
   v = bigEnd b (f .first + size f) / 2 ^ f .lo
@@ -147,6 +148,49 @@ module _ (f : Field) (s : Sound 16 f) (high-first : f .le ≡ false) (b : ℕ �
   pub read-first : (n : ℕ) → f .first + size f ≤ 8 → 8 < n → read f b ≡ firstWord n b / 2 ^ (8 * (8 - (f .first + size f)) + f .lo) % 2 ^ f .w
   unfolding firstWord
   read-first n h l = read-shift 8 h ∙ sym (simp (lt-ltb 8 n l))
+
+-- no bits
+pub read-none : (f : Field) (b : ℕ → ℕ) → f .w ≡ 0 → 0 ≡ read f b
+unfolding read readTo
+read-none f b e = let n : size f ≡ 0 = omega arith in sym (ap (readTo f b) n)
+
+-- ---- a field that a word reaches
+
+module _ (n c : ℕ) (f : Field) (e : f ≡ narrowOf c) (t : T (reached n c)) where
+  abbrev rest : Field → Bool
+  rest g = cond (leb 64 (g .w)) true (cond (eqb (g .w) 0) true (cond (g .le) false (inWord n g)))
+
+  sizes : T (leb n 12 && sound n f)
+  unfolding reached
+  sizes = both-left (leb n 12 && sound n f) (rest f) (subst (λ (g : Field). T ((leb n 12 && sound n g) && rest g)) (sym e) t)
+
+  pub reached-most : n ≤ 12
+  reached-most = leb→le n 12 (both-left (leb n 12) (sound n f) sizes)
+
+  pub reached-sound : Sound n f
+  reached-sound = sound-is n f (both-right (leb n 12) (sound n f) sizes)
+
+  narrow : 0 < f .w → f .w < 64 → T (cond (f .le) false (inWord n f))
+  unfolding reached
+  narrow p l =
+      let u : T (rest f) = both-right (leb n 12 && sound n f) (rest f) (subst (λ (g : Field). T ((leb n 12 && sound n g) && rest g)) (sym e) t) in
+      let d : f .w ≡ 0 → ⊥ = (λ z. omega arith) in
+      let q : rest f ≡ cond (f .le) false (inWord n f) = simp (lt-leb 64 (f .w) l, ne-eqb (f .w) 0 d) in
+      subst T q u
+
+  pub reached-high : 0 < f .w → f .w < 64 → f .le ≡ false
+  reached-high p l = go (f .le) (narrow p l)
+    where
+      go : (b : Bool) → T (cond b false (inWord n f)) → b ≡ false
+      go true u = absurd u
+      go false u = refl
+
+  pub reached-first : 0 < f .w → f .w < 64 → 64 < 8 * (n - (f .first + size f)) + f .lo + f .w → (8 < n) × (f .first + size f ≤ 8)
+  reached-first p l h =
+      let u : T (inWord n f) = subst (λ (b : Bool). T (cond b false (inWord n f))) (reached-high p l) (narrow p l) in
+      let q : inWord n f ≡ (leb 9 n && leb (f .first + size f) 8) = simp (lt-leb (8 * (n - (f .first + size f)) + f .lo + f .w) 64 h) in
+      let v : T (leb 9 n && leb (f .first + size f) 8) = subst T q u in
+      (leb→le 9 n (both-left (leb 9 n) (leb (f .first + size f) 8) v), leb→le _ 8 (both-right (leb 9 n) (leb (f .first + size f) 8) v))
 
 -- ---- a byte of a word
 

@@ -1,18 +1,21 @@
 // The decoder: a frame's kind and arguments by the one table, or why it has none.
 // The laws that tie it to the builders are codec's (proofs/Laws.antt).
 ghost use mathlib.Core.Path.{_≡_};
-ghost use mathlib.Core.Bool.{true, _&&_};
+ghost use mathlib.Core.Bool.{_&&_};
 ghost use Prim.Native.Nat.{_+_, _/_, _%_, _^_, _≤_, _<_};
-ghost use lib.ListN.{length, take, replicate};
-ghost use Rattle.frame.specs.Field.{read, Sound};
-ghost use Rattle.frame.specs.Layout.{bytes};
+ghost use lib.ListN.{length, take};
+ghost use lib.Dec.{T};
+ghost use Rattle.frame.specs.Field.{read};
+ghost use Rattle.frame.specs.Layout.{bytes, reads};
+ghost use Rattle.table.specs.Number.{narrowOf, narrowsOf};
 ghost use Rattle.table.specs.Table.{kinds, rowAt, lenOf, countOf, numbersOf};
-ghost use Rattle.table.specs.Narrowed.{opcode, Ready};
-ghost use Rattle.decoder.specs.Words.{bigEnd, from, firstWord, lastWord, heldOf, heldByte, cleanWords, InWords, allTaken, nineIn};
+ghost use Rattle.table.specs.Narrowed.{opcode};
+ghost use Rattle.decoder.specs.Words.{bigEnd, from, firstWord, lastWord, heldOf, heldByte, cleanWords, InWords, reached, allReached};
+ghost use Rattle.decoder.specs.Words.{Whole, AllWhole, nine, allTaken};
 ghost use Rattle.decoder.specs.Decoding.{refuses, strayAt, lower, lacking, judged, sought, decode, decoded};
-use frame::Field;
 use refusal::Refusal;
 
+mod rows;
 mod seats;
 
 pub enum Answer {
@@ -64,36 +67,37 @@ fn eight(s: &[u8], at: usize) -> u64
     four(s, at) * 0x1_0000_0000 + four(s, at + 4)
 }
 
-// The number of all bytes, of which there are at most eight.
-fn all_bytes(s: &[u8]) -> u64
-    requires { ⌜ length (now s) ≤ 8 ⌝ }
-    ensures { λ r. ⌜ r ≡ bigEnd (bytes (now (s .entry))) (length (now (s .entry))) ⌝ }
+// The number of the first n bytes, of which there are at most eight.
+fn bytes_to(s: &[u8], n: usize) -> u64
+    requires { ⌜ (n ≤ 8) × (n ≤ length (now s)) ⌝ }
+    ensures { λ r. ⌜ r ≡ bigEnd (bytes (now (s .entry))) n ⌝ }
 {
     let mut sum: u64 = 0;
     let mut i: usize = 0;
-    while i < s.len() {
+    while i < n {
         sum = sum * 256 + u8_as_u64(s[i]);
         i += 1;
     }
     sum
 }
 
-// The first eight bytes of a frame that has more.
-fn first_of(frame: &[u8]) -> u64
-    ensures { λ r. ⌜ r ≡ firstWord (length (now (frame .entry))) (bytes (now (frame .entry))) ⌝ }
+// The first eight of n bytes where there are more than eight, else 0.
+fn first_of(frame: &[u8], n: usize) -> u64
+    requires { ⌜ n ≤ length (now frame) ⌝ }
+    ensures { λ r. ⌜ r ≡ firstWord n (bytes (now (frame .entry))) ⌝ }
 {
-    if 8 < frame.len() { eight(frame, 0) } else { 0 }
+    if 8 < n { eight(frame, 0) } else { 0 }
 }
 
-// The last eight bytes, or all.
-fn last_of(frame: &[u8]) -> u64
-    ensures { λ r. ⌜ r ≡ lastWord (length (now (frame .entry))) (bytes (now (frame .entry))) ⌝ }
+// The last eight of n bytes, or all.
+fn last_of(frame: &[u8], n: usize) -> u64
+    requires { ⌜ n ≤ length (now frame) ⌝ }
+    ensures { λ r. ⌜ r ≡ lastWord n (bytes (now (frame .entry))) ⌝ }
 {
-    let n = frame.len();
     if 8 <= n {
         eight(frame, n - 8)
     } else {
-        all_bytes(frame)
+        bytes_to(frame, n)
     }
 }
 
@@ -144,62 +148,99 @@ fn held_at(i: usize) -> [u64; 2]
     }
 }
 
+// Whether each word lies under its mask, so that no byte has a stray bit.
+fn is_clean(held: [u64; 2], first: u64, last: u64) -> bool
+    ensures { λ r. ⌜ r ≡ cleanWords held first last ⌝ }
+{
+    if first & held[0] == first {
+        last & held[1] == last
+    } else {
+        false
+    }
+}
+
 // ---- a row's fields
 
 fn bits_of(word: u64, shift: usize, w: usize) -> u64
-    requires { ⌜ shift + w < 64 ⌝ }
+    requires { ⌜ (shift < 64) × (w < 64) ⌝ }
     ensures { λ r. ⌜ r ≡ word / 2 ^ shift % 2 ^ w ⌝ }
 {
     (word >> shift) % (1u64 << w)
 }
 
-// The number that a field holds: some bits of a word, where it stands high byte first and within one; or else byte by byte.
-fn read_at(first: u64, last: u64, frame: &[u8], f: Field) -> u64
-    requires { ⌜ InWords first last (now frame) × Sound (length (now frame)) f × (length (now frame) ≤ 12) ⌝ }
-    ensures { λ r. ⌜ r ≡ read f (bytes (now (frame .entry))) ⌝ }
+// The number that a field of a frame of n bytes holds: some bits of a word, or eight bytes, which are `whole`. With constants for n and the
+// number no test is left when the program runs. The frame is here for the contract alone: its bytes come in the words.
+fn field_of(frame: &[u8], first: u64, last: u64, whole: u64, n: usize, number: u32) -> u64
+    requires { ⌜ (n ≡ length (now frame)) × InWords first last (now frame) × T (reached n number) × Whole whole (bytes (now frame)) number ⌝ }
+    ensures { λ r. ⌜ r ≡ read (narrowOf number) (bytes (now (frame .entry))) ⌝ }
 {
-    if f.le {
-        return frame::get(frame, f);
+    let f = table::narrow_field(number);
+    if f.w == 0 {
+        return 0;
     }
-    let n = frame.len();
+    if 63 < f.w {
+        return whole;
+    }
     let end = f.first + (f.w + 7) / 8;
     let shift = 8 * (n - end) + f.lo;
-    if shift + f.w < 64 {
+    if shift + f.w <= 64 {
         return bits_of(last, shift, f.w);
     }
-    if 8 < n {
-        if end <= 8 {
-            let up = 8 * (8 - end) + f.lo;
-            if up + f.w < 64 {
-                return bits_of(first, up, f.w);
-            }
-        }
-    }
-    frame::get(frame, f)
+    bits_of(first, 8 * (8 - end) + f.lo, f.w)
 }
 
+// Both are known already: no way branches off here.
 fn both(a: bool, b: bool) -> bool
     ensures { λ r. ⌜ r ≡ (a && b) ⌝ }
 {
     if a { b } else { false }
 }
 
-fn arguments_of(row: [u32; 13], first: u64, last: u64, frame: &[u8], args: &mut [u64; 9]) -> bool
-    requires { ⌜ Ready row × (lenOf row ≡ length (now frame)) × InWords first last (now frame) × (now args ≡ replicate 9 0) ⌝ }
-    ensures { λ r. ⌜ (r ≡ allTaken (numbersOf row) (bytes (now (frame .entry)))) × (now (args .exit) ≡ nineIn row (now (frame .entry))) ⌝ }
+// The numbers that nine fields of a frame hold; whether no bit is stray for the row at a place, and each code is taken.
+// Straight code over single numbers, so that it can be written out for each row with that row's constants.
+fn read_fields(
+    place: usize,
+    frame: &[u8],
+    first: u64,
+    last: u64,
+    whole: u64,
+    n: usize,
+    c0: u32,
+    c1: u32,
+    c2: u32,
+    c3: u32,
+    c4: u32,
+    c5: u32,
+    c6: u32,
+    c7: u32,
+    c8: u32,
+    args: &mut [u64; 9],
+) -> bool
+    requires { ⌜ (n ≡ length (now frame)) × InWords first last (now frame) × T (allReached n (nine c0 c1 c2 c3 c4 c5 c6 c7 c8))
+        × AllWhole whole (bytes (now frame)) (nine c0 c1 c2 c3 c4 c5 c6 c7 c8) ⌝ }
+    ensures { λ r. ⌜ (r ≡ (cleanWords (heldOf (rowAt place)) first last && allTaken (nine c0 c1 c2 c3 c4 c5 c6 c7 c8) (bytes (now (frame .entry)))))
+        × (now (args .exit) ≡ reads (narrowsOf (nine c0 c1 c2 c3 c4 c5 c6 c7 c8)) (bytes (now (frame .entry)))) ⌝ }
 {
-    let mut taken = true;
-    let n = u32_as_usize(row[3]);
-    let mut j: usize = 0;
-    while j < n {
-        let number = row[4 + j];
-        let v = read_at(first, last, frame, table::narrow_field(number));
-        args[j] = v;
-        let next = both(taken, codes::is_taken(number, v));
-        taken = next;
-        j += 1;
-    }
-    taken
+    let v0 = field_of(frame, first, last, whole, n, c0);
+    let v1 = field_of(frame, first, last, whole, n, c1);
+    let v2 = field_of(frame, first, last, whole, n, c2);
+    let v3 = field_of(frame, first, last, whole, n, c3);
+    let v4 = field_of(frame, first, last, whole, n, c4);
+    let v5 = field_of(frame, first, last, whole, n, c5);
+    let v6 = field_of(frame, first, last, whole, n, c6);
+    let v7 = field_of(frame, first, last, whole, n, c7);
+    let v8 = field_of(frame, first, last, whole, n, c8);
+    *args = [v0, v1, v2, v3, v4, v5, v6, v7, v8];
+    let t8 = both(codes::is_taken(c8, v8), true);
+    let t7 = both(codes::is_taken(c7, v7), t8);
+    let t6 = both(codes::is_taken(c6, v6), t7);
+    let t5 = both(codes::is_taken(c5, v5), t6);
+    let t4 = both(codes::is_taken(c4, v4), t5);
+    let t3 = both(codes::is_taken(c3, v3), t4);
+    let t2 = both(codes::is_taken(c2, v2), t3);
+    let t1 = both(codes::is_taken(c1, v1), t2);
+    let t0 = both(codes::is_taken(c0, v0), t1);
+    both(is_clean(held_at(place), first, last), t0)
 }
 
 // ---- the decoder
@@ -271,60 +312,24 @@ fn refused(why: Refusal) -> Decoded
     }
 }
 
-// Whether each word lies under its mask, so that no byte has a stray bit.
-fn is_clean(held: [u64; 2], first: u64, last: u64) -> bool
-    ensures { λ r. ⌜ r ≡ cleanWords held first last ⌝ }
-{
-    if first & held[0] == first {
-        last & held[1] == last
-    } else {
-        false
-    }
-}
-
-// The lowest byte, below n, of a field that holds a code it lacks, or n. The fields are looked at again only where there is one.
-fn lacking_at(taken: bool, row: [u32; 13], args: [u64; 9], frame: &[u8]) -> usize
-    requires { ⌜ Ready row × (taken ≡ allTaken (numbersOf row) (bytes (now frame))) × (args ≡ nineIn row (now frame)) ⌝ }
-    ensures { λ r. ⌜ r ≡ lacking (length (now (frame .entry))) (numbersOf row) (take (countOf row) args) ⌝ }
-{
-    let n = frame.len();
-    if taken {
-        n
-    } else {
-        first_lacking(row, args, n)
-    }
-}
-
-// What a frame with the opcode and the length of the row at a place says, where it has no stray bit.
-fn read_out(i: usize, first: u64, last: u64, frame: &[u8]) -> Decoded
-    requires { ⌜ (i < kinds) × (lenOf (rowAt i) ≡ length (now frame)) × InWords first last (now frame) × (cleanWords (heldOf (rowAt i)) first last ≡ true) ⌝ }
-    ensures { λ r. ⌜ r ≡ decoded (judged (i + 1) (rowAt i) (now (frame .entry))) ⌝ }
-{
-    let row = table::row_at(i);
-    let mut args = [0u64; 9];
-    let taken = arguments_of(row, first, last, frame, &mut args);
-    let q = lacking_at(taken, row, args, frame);
-    if q < frame.len() {
-        return refused(Refusal::UnknownCode(q));
-    }
-    Decoded {
-        answer: Answer::Kind((i + 1) as u64),
-        count: u32_as_usize(row[3]),
-        args,
-    }
-}
-
-// What a frame with the opcode and the length of the row at a place says. Bytes are looked at one by one only to find a stray bit's place.
+// What a frame with the opcode and the length of the row at a place says. Only a refused one is gone over again, for the place.
 fn judge(i: usize, frame: &[u8]) -> Decoded
     requires { ⌜ (i < kinds) × (lenOf (rowAt i) ≡ length (now frame)) ⌝ }
     ensures { λ r. ⌜ r ≡ decoded (judged (i + 1) (rowAt i) (now (frame .entry))) ⌝ }
 {
-    let first = first_of(frame);
-    let last = last_of(frame);
-    if is_clean(held_at(i), first, last) {
-        return read_out(i, first, last, frame);
+    let mut args = [0u64; 9];
+    if rows::read_row(i, frame, &mut args) {
+        return Decoded {
+            answer: Answer::Kind((i + 1) as u64),
+            count: rows::count_at(i),
+            args,
+        };
     }
-    refused(Refusal::StrayBit(first_stray(i, frame)))
+    let p = first_stray(i, frame);
+    if p < frame.len() {
+        return refused(Refusal::StrayBit(p));
+    }
+    refused(Refusal::UnknownCode(first_lacking(table::row_at(i), args, frame.len())))
 }
 
 // The opcode, which is the first two bytes.

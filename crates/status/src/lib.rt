@@ -149,13 +149,16 @@ impl ResetSrc {
         }
     }
 
+    // A number past 6 has no name, and 3 has none: taken for 3 it leaves seven cases, which become a table without a branch.
     fn from(value: u8) -> ResetSrc
         ensures { λ r. ⌜ r ≡ resetOf value ⌝ }
     {
-        match value {
+        let near = if 6 < value { 3 } else { value };
+        match near {
             0 => ResetSrc::Cleared,
             1 => ResetSrc::Analog,
             2 => ResetSrc::External,
+            3 => ResetSrc::Unknown,
             4 => ResetSrc::Watchdog,
             5 => ResetSrc::Iocd,
             6 => ResetSrc::Rtc,
@@ -364,6 +367,10 @@ impl Intr {
     pub fn from_slice(bytes: &[u8]) -> Intr
         ensures { λ r. ⌜ r ≡ intrOf (now (bytes .entry)) ⌝ }
     {
+        // Nearly always all four are there, and are then read at once.
+        if 4 <= bytes.len() {
+            return Intr(u32_of(bytes[0], bytes[1], bytes[2], bytes[3]));
+        }
         Intr(u32_of(
             byte_at(bytes, 0),
             byte_at(bytes, 1),

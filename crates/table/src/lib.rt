@@ -6,6 +6,8 @@ ghost use Rattle.table.specs.Number.{narrowOf, plainOf};
 ghost use Rattle.table.specs.Table.{forms, rows, rowAt, yesNo};
 use frame::Field;
 
+pub mod fields;
+
 // The fields' numbers, named by their places: B2_7_4 is byte 2, bits 7 to 4; W2_3 is bytes 2 and 3; L3_10 is bytes 3 to 10, low byte first.
 // C stands for B or W where the argument is a code: an enum's, or a yes or no. _SF, _PBL, _CRC, _CAD, _BW: one of that list of codes;
 // _TO9: nothing above 9; _CUT3: narrowed to 3 bits.

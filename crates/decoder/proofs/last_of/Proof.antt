@@ -11,7 +11,7 @@ returns c = c .eight .ensures ∙ sym (simp (le-leb _ _ (c .before .if1 .taken))
 
 returns-2 : tie.Need-returns-2
 unfolding lastWord
-returns-2 c = c .all-bytes .ensures ∙ sym (simp (lt-leb _ _ (c .before .if1 .left)))
+returns-2 c = c .bytes-to .ensures ∙ sym (simp (lt-leb _ _ (c .before .if1 .left)))
 
 pub last-of-spec : {M : Type 1} → statement M
 last-of-spec = tie.close (tie.spec (search needs) (search needs) returns returns-2)

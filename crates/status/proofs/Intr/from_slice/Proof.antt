@@ -8,4 +8,5 @@ pub from-slice-spec : {M : Type 1} → statement M
 from-slice-spec =
     tie.close
     (tie.spec
+    (search needs) (search needs) (search needs) (search needs) (search needs) (λ c. cc)
     (search needs) (search needs) (search needs) (search needs) (search needs) (λ c. cc))

@@ -10,18 +10,18 @@ use lib.ListN.{length}
 use Rattle.frame.specs.Layout.{bytes}
 use Rattle.decoder.specs.Words.{bigEnd}
 use Rattle.decoder.proofs.Words.{bigEnd-lt}
-use Rattle.decoder.proofs.all_bytes.Statement.{statement}
-use Rattle.decoder.proofs.all_bytes.Tie as tie
+use Rattle.decoder.proofs.bytes_to.Statement.{statement}
+use Rattle.decoder.proofs.bytes_to.Tie as tie
 
 abbrev Inv-loop : tie.InvT-loop
-Inv-loop s sum₀ i₀ sum i = (i ≤ length s) × (length s ≤ 8) × (sum ≡ bigEnd (bytes s) i)
+Inv-loop s n sum₀ i₀ sum i = (i ≤ n) × (n ≤ 8) × (n ≤ length s) × (sum ≡ bigEnd (bytes s) i)
 
 abbrev μ-loop : tie.MeasureT-loop
-μ-loop s sum₀ i₀ sum i = length s - i
+μ-loop s n sum₀ i₀ sum i = n - i
 
 loop-holds : tie.Need-loop-holds Inv-loop μ-loop
 unfolding bigEnd
-loop-holds c = (omega arith, c .before .pre, refl)
+loop-holds c = (omega arith, c .before .pre .0, c .before .pre .1, refl)
 
 mul-sum : tie.Need-mul-sum Inv-loop μ-loop
 mul-sum c =
@@ -45,14 +45,14 @@ unfolding bigEnd
 loop-again c =
     let l = c .before .before .before .loop in
     let s = c .before .before .before .before .before in
-    (omega arith, s .pre, ap₂ (λ (x y : ℕ). x * 256 + y) (l .inv .2) (c .u8-as-u64 .ensures .0) ∙ sym (ap (bigEnd (bytes (s .args .s .now))) (add-one (l .i))))
+    (omega arith, s .pre .0, s .pre .1, ap₂ (λ (x y : ℕ). x * 256 + y) (l .inv .3) (c .u8-as-u64 .ensures .0) ∙ sym (ap (bigEnd (bytes (s .args .s .now))) (add-one (l .i))))
 
 returns : tie.Need-returns Inv-loop μ-loop
 returns c =
-    let e : c .before .loop .i ≡ length (c .before .before .before .args .s .now) = omega arith in
-    c .before .loop .inv .2 ∙ ap (bigEnd (bytes (c .before .before .before .args .s .now))) e
+    let e : c .before .loop .i ≡ c .before .before .before .args .n = omega arith in
+    c .before .loop .inv .3 ∙ ap (bigEnd (bytes (c .before .before .before .args .s .now))) e
 
-pub all-bytes-spec : {M : Type 1} → statement M
-all-bytes-spec =
+pub bytes-to-spec : {M : Type 1} → statement M
+bytes-to-spec =
     tie.close
     (tie.spec Inv-loop μ-loop loop-holds mul-sum (λ c. omega arith) (λ c κs. search needs) add-sum (λ c. omega arith) (λ c. omega arith) loop-again returns)
