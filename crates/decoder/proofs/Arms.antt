@@ -16,7 +16,8 @@ use Rattle.table.specs.Number.{narrowOf, narrowsOf, codesOf}
 use Rattle.table.specs.Codes.{takes}
 use Rattle.table.specs.Table.{kinds, rowAt, lenOf, countOf, numbersOf}
 use Rattle.table.proofs.Below.{below, below-at}
-use Rattle.decoder.specs.Words.{firstWord, lastWord, heldOf, cleanWords, cleanFrame, InWords, reached, allReached, Whole, AllWhole, allTaken, goodFrame, nineIn}
+use Rattle.decoder.specs.Words.{firstWord, lastWord, heldOf, cleanWords, cleanFrame, InWords, reached, allReached}
+use Rattle.decoder.specs.Words.{Whole, AllWhole, allTaken, goodFrame, nineIn}
 use Rattle.table.specs.Narrowed.{argumentsIn, Ready}
 use Rattle.refusal.specs.declared.Refusal.the-variants.{UnknownCode}
 use Rattle.decoder.specs.Decoding.{refuses, strayAt, lacking, judged}
@@ -58,7 +59,8 @@ onlyWide c (x ∷ xs) = cond (leb 64 (narrowOf x .w)) (eqb x c) true && onlyWide
 all-whole : (whole : ℕ) (b : ℕ → ℕ) (c : ℕ) → whole ≡ read (narrowOf c) b → (cs : List ℕ) → T (onlyWide c cs) → AllWhole whole b cs
 unfolding onlyWide AllWhole
 all-whole whole b c e [] t = tt
-all-whole whole b c e (x ∷ xs) t = (go (leb 64 (narrowOf x .w)) (both-left this (onlyWide c xs) t), all-whole whole b c e xs (both-right this (onlyWide c xs) t))
+all-whole whole b c e (x ∷ xs) t =
+    (go (leb 64 (narrowOf x .w)) (both-left this (onlyWide c xs) t), all-whole whole b c e xs (both-right this (onlyWide c xs) t))
   where
     this : Bool
     this = cond (leb 64 (narrowOf x .w)) (eqb x c) true

@@ -44,8 +44,13 @@ loop-again : tie.Need-loop-again Inv-loop μ-loop
 unfolding bigEnd
 loop-again c =
     let l = c .before .before .before .loop in
-    let s = c .before .before .before .before .before in
-    (omega arith, s .pre .0, s .pre .1, ap₂ (λ (x y : ℕ). x * 256 + y) (l .inv .3) (c .u8-as-u64 .ensures .0) ∙ sym (ap (bigEnd (bytes (s .args .s .now))) (add-one (l .i))))
+    let s = c .before .before .before .before .before in (
+      omega arith,
+      s .pre .0,
+      s .pre .1,
+      ap₂ (λ (x y : ℕ). x * 256 + y) (l .inv .3) (c .u8-as-u64 .ensures .0) ∙ sym
+          (ap (bigEnd (bytes (s .args .s .now))) (add-one (l .i))),
+    )
 
 returns : tie.Need-returns Inv-loop μ-loop
 returns c =

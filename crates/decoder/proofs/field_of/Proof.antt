@@ -59,7 +59,8 @@ high : (c : tie.Else2) → c .before .before .before .before .narrow-field .resu
 high c =
     let k = c .before .before .before .before in
     let s = k .before .before in
-    reached-high (s .args .n) (s .args .number) _ (k .narrow-field .ensures) (s .pre .2) (omega (arith, c .before .before .if1 .left)) (omega (arith, c .if2 .left))
+    reached-high (s .args .n) (s .args .number) _ (k .narrow-field .ensures)
+    (s .pre .2) (omega (arith, c .before .before .if1 .left)) (omega (arith, c .if2 .left))
 
 bits-of-requires : tie.Need-bits-of-requires
 bits-of-requires c κs = let e = c .before .before .before .before .before in (omega (arith, e .before .before .if1 .left), omega (arith, e .if2 .left))
@@ -109,5 +110,9 @@ returns-4 c =
     ∙ sym (read-first (s .args .n) f (lies k) (high e) b (λ j. omega (arith, k .before .shared-slice-known .given j)) (s .args .n) (front z .1) (front z .0)))
 
 pub field-of-spec : {M : Type 1} → statement M
-field-of-spec = tie.close (tie.spec (search needs) returns returns-2 add-end add-end-2 sub-shift mul-shift add-shift add-if3 bits-of-requires returns-3
-    (λ c. omega (arith, front c .1)) (λ c. omega (arith, front c .1)) (λ c. let k = c .before .before .before .before .before .before .before .before .before .before in omega (arith, lies k .within)) bits-of-requires-2 returns-4)
+field-of-spec =
+    tie.close
+    (tie.spec (search needs) returns returns-2 add-end add-end-2 sub-shift mul-shift add-shift add-if3 bits-of-requires returns-3
+    (λ c. omega (arith, front c .1)) (λ c. omega (arith, front c .1))
+    (λ c. let k = c .before .before .before .before .before .before .before .before .before .before in omega (arith, lies k .within))
+    bits-of-requires-2 returns-4)

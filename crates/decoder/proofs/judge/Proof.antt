@@ -61,7 +61,8 @@ returns-3 c =
     let t : y ≡ false =
     and-none x y (clean-frame r f (good s) (s .pre .1) (λ j. omega (arith, k .before .before .shared-slice-known .given j)) clean) e in
     c .refused2 .ensures
-    ∙ ap decoded (sym (judged-lacking r f (row-whole i (s .pre .0)) (good s) clean (subst (λ (m : ℕ). T (startBelow m (numbersOf r))) (s .pre .1) (row-starts i (s .pre .0)))
+    ∙ ap decoded (sym (judged-lacking r f (row-whole i (s .pre .0)) (good s) clean (subst (λ (m : ℕ). T (startBelow m (numbersOf r)))
+    (s .pre .1) (row-starts i (s .pre .0)))
     t _ (k .read-row .ensures .1) _ (w .ensures) _ (l .first-lacking .ensures) (i + 1)))
 
 first-lacking-requires : tie.Need-first-lacking-requires
@@ -70,4 +71,7 @@ first-lacking-requires c κs =
     subst (λ (r : List ℕ). countOf r ≤ 9) (sym (c .row-at .ensures)) (good s .few)
 
 pub judge-spec : {M : Type 1} → statement M
-judge-spec = tie.close (tie.spec (search needs) (search needs) (search needs) returns (search needs) (search needs) returns-2 (search needs) first-lacking-requires (search needs) returns-3)
+judge-spec =
+    tie.close
+    (tie.spec (search needs) (search needs) (search needs) returns (search needs) (search needs) returns-2
+    (search needs) first-lacking-requires (search needs) returns-3)

@@ -59,10 +59,14 @@ returns c =
     let t6 = taken-next b (a .c6) (a .c7 ∷ a .c8 ∷ []) _ (f6 .field-of7 .ensures) _ _ _ (i3 .is-taken3 .ensures) (t7) (b3 .both3 .ensures) in
     let t5 = taken-next b (a .c5) (a .c6 ∷ a .c7 ∷ a .c8 ∷ []) _ (f5 .field-of6 .ensures) _ _ _ (i4 .is-taken4 .ensures) (t6) (b4 .both4 .ensures) in
     let t4 = taken-next b (a .c4) (a .c5 ∷ a .c6 ∷ a .c7 ∷ a .c8 ∷ []) _ (f4 .field-of5 .ensures) _ _ _ (i5 .is-taken5 .ensures) (t5) (b5 .both5 .ensures) in
-    let t3 = taken-next b (a .c3) (a .c4 ∷ a .c5 ∷ a .c6 ∷ a .c7 ∷ a .c8 ∷ []) _ (f3 .field-of4 .ensures) _ _ _ (i6 .is-taken6 .ensures) (t4) (b6 .both6 .ensures) in
-    let t2 = taken-next b (a .c2) (a .c3 ∷ a .c4 ∷ a .c5 ∷ a .c6 ∷ a .c7 ∷ a .c8 ∷ []) _ (f2 .field-of3 .ensures) _ _ _ (i7 .is-taken7 .ensures) (t3) (b7 .both7 .ensures) in
-    let t1 = taken-next b (a .c1) (a .c2 ∷ a .c3 ∷ a .c4 ∷ a .c5 ∷ a .c6 ∷ a .c7 ∷ a .c8 ∷ []) _ (f1 .field-of2 .ensures) _ _ _ (i8 .is-taken8 .ensures) (t2) (b8 .both8 .ensures) in
-    let t0 = taken-next b (a .c0) (a .c1 ∷ a .c2 ∷ a .c3 ∷ a .c4 ∷ a .c5 ∷ a .c6 ∷ a .c7 ∷ a .c8 ∷ []) _ (f0 .field-of .ensures) _ _ _ (i9 .is-taken9 .ensures) (t1) (b9 .both9 .ensures) in
+    let t3 = taken-next b (a .c3) (a .c4 ∷ a .c5 ∷ a .c6 ∷ a .c7 ∷ a .c8 ∷ []) _ (f3 .field-of4 .ensures) _ _ _
+    (i6 .is-taken6 .ensures) (t4) (b6 .both6 .ensures) in
+    let t2 = taken-next b (a .c2) (a .c3 ∷ a .c4 ∷ a .c5 ∷ a .c6 ∷ a .c7 ∷ a .c8 ∷ []) _ (f2 .field-of3 .ensures) _ _ _
+    (i7 .is-taken7 .ensures) (t3) (b7 .both7 .ensures) in
+    let t1 = taken-next b (a .c1) (a .c2 ∷ a .c3 ∷ a .c4 ∷ a .c5 ∷ a .c6 ∷ a .c7 ∷ a .c8 ∷ []) _ (f1 .field-of2 .ensures) _ _ _
+    (i8 .is-taken8 .ensures) (t2) (b8 .both8 .ensures) in
+    let t0 = taken-next b (a .c0) (a .c1 ∷ a .c2 ∷ a .c3 ∷ a .c4 ∷ a .c5 ∷ a .c6 ∷ a .c7 ∷ a .c8 ∷ []) _ (f0 .field-of .ensures) _ _ _
+    (i9 .is-taken9 .ensures) (t1) (b9 .both9 .ensures) in
     let r8 = reads-next b (a .c8) ([]) _ (f8 .field-of9 .ensures) _ (none-read b) in
     let r7 = reads-next b (a .c7) (a .c8 ∷ []) _ (f7 .field-of8 .ensures) _ (r8) in
     let r6 = reads-next b (a .c6) (a .c7 ∷ a .c8 ∷ []) _ (f6 .field-of7 .ensures) _ (r7) in
@@ -88,5 +92,7 @@ read-fields-spec =
     (λ c κs. ask (c .before .before .before .before .before .before .before) 6 (omega arith))
     (λ c κs. ask (c .before .before .before .before .before .before .before .before) 7 (omega arith))
     (λ c κs. ask (c .before .before .before .before .before .before .before .before .before) 8 (omega arith))
-    (search needs) (search needs) (search needs) (search needs) (search needs) (search needs) (search needs) (search needs) (search needs) (search needs) (search needs)
-    (search needs) (search needs) (search needs) (search needs) (search needs) (search needs) (search needs) (search needs) (search needs) (search needs) returns)
+    (search needs) (search needs) (search needs) (search needs) (search needs) (search needs) (search needs) (search needs) (search needs)
+    (search needs) (search needs)
+    (search needs) (search needs) (search needs) (search needs) (search needs) (search needs) (search needs) (search needs) (search needs)
+    (search needs) returns)

@@ -24,8 +24,11 @@ module _ (at i : ℕ) (h : at ≤ i) (f : List ℕ) where
 
 read-fsk-requires : tie.Need-read-fsk-requires
 read-fsk-requires c κs =
-    let s = c .before .before .before .before in
-    (omega (arith, c .before .if2 .taken, c .before .before .if1 .left), counted 15 (s .args .i) (c .before .before .if1 .left) (s .args .frame .now) (s .pre .1))
+    let s = c .before .before .before .before in (
+      omega (arith, c .before .if2 .taken, c .before .before .if1 .left),
+      counted 15 (s .args .i) (c .before .before .if1 .left) (s .args .frame .now)
+          (s .pre .1),
+    )
 
 returns-2 : tie.Need-returns-2
 returns-2 c =
