@@ -93,7 +93,7 @@ const COUNT_38: usize = table::ROW_38[3] as usize;
 const COUNT_39: usize = table::ROW_39[3] as usize;
 
 // The number of fields of the row at a place.
-pub fn count_at(i: usize) -> usize
+pub(crate) fn count_at(i: usize) -> usize
     ensures { λ r. ⌜ r ≡ countOf (rowAt i) ⌝ }
 {
     match i {
@@ -145,7 +145,7 @@ const FIRST_FSK: usize = 15;
 const FIRST_COMMON: usize = 23;
 
 // The arguments of a frame with the length of the row at a place; whether it has no stray bit, and each of its codes is taken.
-pub fn read_row(i: usize, frame: &[u8], args: &mut [u64; 9]) -> bool
+pub(crate) fn read_row(i: usize, frame: &[u8], args: &mut [u64; 9]) -> bool
     requires { ⌜ (i < kinds) × (lenOf (rowAt i) ≡ length (now frame)) ⌝ }
     ensures { λ r. ⌜ (r ≡ goodFrame (rowAt i) (now (frame .entry))) × (now (args .exit) ≡ nineIn (rowAt i) (now (frame .entry))) ⌝ }
 {

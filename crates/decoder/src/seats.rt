@@ -72,7 +72,7 @@ const SEAT_38: u32 = 37 * 256 + table::ROW_38[1] * 16;
 const SEAT_39: u32 = 38 * 256 + table::ROW_39[1] * 16;
 
 // The seat of an opcode.
-pub fn seat_of(op: u64) -> u32
+pub(crate) fn seat_of(op: u64) -> u32
     ensures { λ r. ⌜ r ≡ seatOf op ⌝ }
 {
     match op {
