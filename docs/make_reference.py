@@ -320,8 +320,8 @@ def c_interrupts(data):
 
 
 def c_named(data):
-    """The table by which tests/link/names.c holds each constant to the library."""
-    out = ["/* Made from docs/commands.json by docs/make_reference.py: every constant of the header that names a kind or a code. */",
+    """The tables by which tests/link/names.c holds each constant and each limit to the library."""
+    out = ["/* Made from docs/commands.json by docs/make_reference.py: what the header says of kinds, codes and numbers. */",
            "static const struct {", "    uint64_t kind, number;", "    size_t len, count;", "} named_kinds[] = {"]
     out += ["    {%s, %d, %d, %d}," % (c_kind(k), k["kind"], k["length"], len(k["arguments"])) for k in data["kinds"]]
     out += ["};", "", "/* An argument that is a code or a yes or no, and all that the checked builder takes there; more, if the plain one takes one more. */",
@@ -334,6 +334,10 @@ def c_named(data):
             more = len(names) - len(a.get("checked_codes", names))
             text = "{%s, %d, %d, %d, {%s}}," % (c_kind(k), n, len(names) - more, more, ", ".join(names))
             out += textwrap.wrap(text, LINE, initial_indent="    ", subsequent_indent="        ")
+    out += ["};", "", "/* An argument that is a number, and the greatest that the checked builder takes there. */",
+            "static const struct {", "    uint64_t kind;", "    size_t argument;", "    uint64_t most;", "} named_limits[] = {"]
+    for k in data["kinds"]:
+        out += ["    {%s, %d, %dULL}," % (c_kind(k), n, a["range"][1]) for n, a in enumerate(k["arguments"], 1) if a["takes"] == "number"]
     return out + ["};"]
 
 

@@ -47,7 +47,7 @@ extern "C" {
 #define HB_REFUSED_UNKNOWN_OPCODE 2 /* no command has the frame's opcode */
 #define HB_REFUSED_WRONG_LENGTH 3 /* its opcode is known, but no command with that opcode has the frame's length */
 #define HB_REFUSED_STRAY_BIT 4 /* a bit is set that belongs to none of the command's arguments; place: the lowest such byte of the frame, from 0 */
-#define HB_REFUSED_UNKNOWN_CODE 5 /* an argument's bits are no code of its enum; place: the lowest such byte of the frame, from 0 */
+#define HB_REFUSED_UNKNOWN_CODE 5 /* an argument's bits are no code of its enum, or a number over its limit; place: the lowest such byte of the frame, from 0 */
 #define HB_REFUSED_ARGUMENT_OUTSIDE 6 /* an argument is missing, surplus, or not one that its builder takes; place: the first such argument, from 1 */
 #define HB_REFUSED_RESPONSE_LENGTH 7 /* a response has not its length */
 #define HB_REFUSED_NO_ROOM 8 /* the frames of the book would end behind its buffer */
@@ -195,7 +195,7 @@ extern "C" {
 /* Sets the FSK sync word.
  *   syncword   any number       the sync word
  *   bit_order  HB_BIT_ORDER_..  which bit goes first over the air
- *   nb_bits    0 to 127         its length, in bits */
+ *   nb_bits    0 to 64          its length, in bits */
 #define HB_SET_FSK_SYNC_WORD 20
 
 /* Sets the addresses by which FSK packets are filtered.

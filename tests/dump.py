@@ -5,7 +5,7 @@
 """
 import sys
 
-# An enum's codes; where a field names none, it lacks no code.
+# What a field takes, an enum's codes or numbers up to a limit; where it names none, it takes all that it can hold.
 SF = range(5, 13)
 CR = range(0, 10)
 TWO = (0, 1)
@@ -15,12 +15,13 @@ CAD_EXIT = (0, 1, 16)
 PBL_DETECT = (0, 8, 16, 24, 32)
 CRC = (0, 1, 2, 3, 4, 9, 10, 11, 12)
 SOURCE = range(0, 5)
+NB_BITS = range(0, 65)
 RX_BW = (255, 0, 64, 128, 192, 136, 200, 144, 24, 208, 88, 152, 32, 96, 216, 160, 17, 81, 224, 25, 209, 89, 153, 33,
          97, 217, 161, 18, 82, 225, 26, 210, 90, 154, 34, 98, 218, 162, 19, 83, 226, 27, 211, 91, 155, 35, 99, 219,
          163, 20, 84, 227, 28, 212, 92, 156, 36, 100, 220, 164, 21, 85, 228, 29, 213, 93, 157, 37, 101, 165, 86, 229,
          30, 94, 158, 38, 102, 222, 166, 23, 87, 230, 31, 215, 95, 159, 39, 103, 223, 167, 231)
 
-# Kind, opcode, length, fields in argument order (REFERENCE, "Commands"). A field: its codes, and its place as the decoder has it, such as
+# Kind, opcode, length, fields in argument order (REFERENCE, "Commands"). A field: what it takes, and its place as the decoder has it, such as
 # "2.7-4" for bits 7 to 4 of byte 2 and "2-3" for whole bytes ("<" low byte first, "" no bits at all: it reads as 0).
 ROWS = [
     (1, 0x0220, 4, [("2.7-4", SF), ("2.3-0", None), ("3.7-4", CR), ("3.1-0", TWO), ("3.3-2", None)]),
@@ -44,7 +45,7 @@ ROWS = [
                      ("6-7", None), ("8.7-4", CRC), ("8.0", None)]),
     (18, 0x0242, 4, [("2.4", None), ("2.3-0+3", None)]),
     (19, 0x0243, 10, [("2-5", None), ("6-9", None)]),
-    (20, 0x0244, 11, [("2-9", None), ("10.7", None), ("10.6-0", None)]),
+    (20, 0x0244, 11, [("2-9", None), ("10.7", None), ("10.6-0", NB_BITS)]),
     (21, 0x0245, 4, [("2", None), ("3", None)]),
     (22, 0x0246, 2, []),
     (23, 0x0247, 2, []),

@@ -1,9 +1,10 @@
-// Histories whose course is fixed: a technician's, full books, stored books with both forms, and each swap of forms at the edge of the room.
+// Histories whose course is fixed: a technician's, full books, stored books with both forms, sync words of every length, and each swap of forms at the
+// edge of the room.
 use crate::book::{image, length, other_form, Frame, FORMS, SETTINGS};
 use crate::frames::{good, Random};
 use crate::make::{History, Size};
 use crate::record::{hex, Record};
-use crate::seen::{Place, PLACES};
+use crate::seen::{Place, LENGTHS, PLACES};
 use std::io::{Result, Write};
 
 pub enum Course {
@@ -12,6 +13,8 @@ pub enum Course {
     Full(usize),
     // Both forms of a setting in a stored book.
     Both((u64, u64)),
+    // Sync words whose last bytes, the order and the length, are these.
+    SyncWords(Vec<u8>),
     Edge(Edge),
 }
 
@@ -90,6 +93,7 @@ fn edges(random: &mut Random, size: Size) -> Vec<Edge> {
 pub fn courses(random: &mut Random, size: Size) -> Vec<Course> {
     let mut all = vec![Course::Technician, Course::Full(230), Course::Full(231)];
     all.extend(FORMS.map(Course::Both));
+    all.push(Course::SyncWords(if size == Size::Sample { LENGTHS.iter().flat_map(|n| [*n, 128 + n]).collect() } else { (0..=255).collect() }));
     all.extend(edges(random, size).into_iter().map(Course::Edge));
     all
 }
@@ -100,6 +104,7 @@ impl Course {
             Course::Technician => technician(on),
             Course::Full(size) => full(on, *size),
             Course::Both(forms) => both(on, *forms),
+            Course::SyncWords(lasts) => sync_words(on, lasts),
             Course::Edge(edge) => swapped(on, edge),
         }
     }
@@ -164,6 +169,30 @@ fn both<W: Write>(on: &mut History<W>, (short, long): (u64, u64)) -> Result<()> 
     on.record(Record::Make)?;
     put(on, long)?;
     replay(on)
+}
+
+// A sync word is put over another; then the same length is stored in the book, behind its back. One of more than 64 bits is not put, and a book
+// that holds it is refused by every call.
+fn sync_words<W: Write>(on: &mut History<W>, lasts: &[u8]) -> Result<()> {
+    begin(on, 90)?;
+    for last in lasts {
+        on.record(Record::Make)?;
+        for kind in [4, 20, 25] {
+            put(on, kind)?;
+        }
+        let mut frame = good(on.random, 20);
+        frame[10] = *last;
+        on.record(Record::Put { frame })?;
+        replay(on)?;
+        // Behind the header and kind 4 it stands at byte 65.
+        on.poke(75, &[*last])?;
+        put(on, 4)?;
+        on.record(Record::Ask { kind: 20, output: 11 })?;
+        on.record(Record::Replay { output: 40 })?;
+        on.record(Record::Remove { kind: 20 })?;
+        on.record(Record::Clear)?;
+    }
+    Ok(())
 }
 
 // The longer form in the place of the shorter, if there is room; what is asked for and taken out goes by the exact kind; and both once more.

@@ -48,11 +48,10 @@ fn argument(random: &mut Random, field: &Field) -> u64 {
     if let Some(codes) = field.codes {
         return random.one_of(codes);
     }
-    let all = (!0u64).checked_shr(64 - field.bits.len() as u32).unwrap_or(0);
     match random.below(8) {
         0 => 0,
-        1 => all,
-        _ => random.next() & all,
+        1 => field.most,
+        _ => field.cut(random.next()),
     }
 }
 
@@ -65,13 +64,13 @@ pub fn good(random: &mut Random, kind: u64) -> Vec<u8> {
     }
 }
 
-// A good frame but for one enum, whose code is any that its field can hold.
+// A good frame but for one enum or one number with a limit, which is any that its field can hold.
 fn strange(random: &mut Random) -> Vec<u8> {
-    let kind = random.one_of(&[1, 7, 11, 14, 16, 17, 33, 35, 39]);
+    let kind = random.one_of(&[1, 7, 11, 14, 16, 17, 20, 33, 35, 39]);
     let mut frame = good(random, kind);
     let command = commands().iter().find(|c| c.kind == kind).expect("a kind");
-    let coded: Vec<&Field> = command.fields.iter().filter(|f| f.codes.is_some()).collect();
-    for (byte, bit) in &coded[random.below(coded.len())].bits {
+    let limited: Vec<&Field> = command.fields.iter().filter(|f| f.codes.is_some() || f.most < f.ones()).collect();
+    for (byte, bit) in &limited[random.below(limited.len())].bits {
         frame[*byte] = frame[*byte] & !(1 << bit) | (random.below(2) as u8) << bit;
     }
     frame

@@ -28,6 +28,9 @@ pub enum Place {
 
 pub const PLACES: [Place; 4] = [Place::Alone, Place::First, Place::Middle, Place::Last];
 
+// The lengths of a sync word that have to be met, each put and each in a stored book: the least, those about the limit, and the greatest that there is.
+pub const LENGTHS: [u8; 6] = [0, 63, 64, 65, 66, 127];
+
 // How the list with the longer form fills the buffer.
 #[derive(Clone, Copy, Debug, PartialEq, Eq, PartialOrd, Ord)]
 enum Room {
@@ -60,6 +63,9 @@ pub struct Seen {
     edges: BTreeSet<(usize, Swap)>,
     // Of what is asked for or taken out: the form that is not held while the other is.
     missed: BTreeMap<(usize, u64), u64>,
+    // The lengths of sync words that were put into a good book, and those that were in a book when it was called, each with the refusal.
+    put_lengths: BTreeSet<(u8, u8)>,
+    stored_lengths: BTreeSet<(u8, u8)>,
     // Calls on a book with both forms that has another fault too.
     spoilt: [u64; CALLS.len()],
     // Puts into a book with both forms of what does not decode.
@@ -85,6 +91,17 @@ fn call(record: &Record) -> Option<usize> {
         Record::Clear => 4,
         Record::Replay { .. } => 5,
     })
+}
+
+// The length of a sync word, in bits: kind 20 is 02 44 and eleven bytes.
+fn sync_word(frame: &[u8]) -> Option<u8> {
+    if frame.len() == 11 && frame.starts_with(&[0x02, 0x44]) { Some(frame[10] % 128) } else { None }
+}
+
+// The sync word where the header says that one stands, in slot 16.
+fn stored(bytes: &[u8]) -> Option<u8> {
+    let at = u16::from_be_bytes([*bytes.get(36)?, *bytes.get(37)?]) as usize;
+    sync_word(bytes.get(at..at + 11)?)
 }
 
 fn taken(frames: &[Frame]) -> usize {
@@ -136,6 +153,10 @@ impl Seen {
             self.calls[which][answer.refusal as usize] += 1;
             self.spoilt[which] += (self.is_spoilt && answer.refusal == 10) as u64;
         }
+        // Of the calls one is enough, and a replay leaves the book as it found it.
+        if let (Record::Replay { .. }, Some(length)) = (record, stored(&book.bytes)) {
+            self.stored_lengths.insert((length, answer.refusal));
+        }
         match record {
             Record::Put { frame } => self.put(frame, before, answer, book),
             Record::Remove { kind } if answer.refusal == 0 => self.gone.push(*kind),
@@ -158,6 +179,7 @@ impl Seen {
             Ok(before) => before,
             Err(_) => return,
         };
+        self.put_lengths.extend(sync_word(frame).map(|length| (length, answer.refusal)));
         let swapped = form.and_then(|kind| swap(kind, before, size));
         if let Some(swap) = swapped {
             *self.swaps.entry(swap).or_default() += 1;
@@ -221,7 +243,7 @@ impl Seen {
 
     // What was never met.
     pub fn missing(&self) -> Vec<String> {
-        let all = [self.owed_of_calls(), self.owed_of_forms(), self.owed_of_full_books()].concat();
+        let all = [self.owed_of_calls(), self.owed_of_forms(), self.owed_of_full_books(), self.owed_of_sync_words()].concat();
         all.into_iter().filter(|(met, _)| !met).map(|(_, what)| what).collect()
     }
 
@@ -250,6 +272,16 @@ impl Seen {
                 let what = format!("a {} of kind {} while its other form is held", CALLS[which].0, kind);
                 owed.push((self.missed.contains_key(&(which, kind)), what));
             }
+        }
+        owed
+    }
+
+    fn owed_of_sync_words(&self) -> Vec<(bool, String)> {
+        let mut owed = vec![];
+        for length in LENGTHS {
+            let (put, open) = if length <= 64 { (0, 0) } else { (5, 10) };
+            owed.push((self.put_lengths.contains(&(length, put)), format!("a put of a sync word of {} bits with the answer {}", length, put)));
+            owed.push((self.stored_lengths.contains(&(length, open)), format!("a book with one of {} bits with the answer {}", length, open)));
         }
         owed
     }

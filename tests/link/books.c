@@ -276,6 +276,30 @@ static void both_forms(void) {
     }
 }
 
+/* A stored book with a sync word of every length, in either order: up to 64 bits it opens, and beyond it is not well formed. */
+static void sync_words(void) {
+    for (unsigned last = 0; last < 256; last++) {
+        make(100);
+        put(4, "02 23 34");
+        put(20, "02 44 01 23 45 67 89 AB CD EF 40");
+        put(25, "02 01 00");
+        list[1].bytes[10] = book[75] = last;
+        trying("a book with a sync word", "last byte", last);
+        if (last % 128 <= 64) {
+            ask(20);
+            replay();
+            take_out(20);
+        } else {
+            refuses_all(10);
+            same_answer(change('r', 20, NULL, 0), 10, 0, 0);
+            reads(20, 10, NULL, 0);
+            same_answer(change('m', 0, NULL, 0), 0, 0, 0);
+            count = 0;
+            is_the_list();
+        }
+    }
+}
+
 static void sizes(void) {
     const size_t bad[] = {0, 1, 61, 4097};
     for (size_t i = 0; i < 4; i++) {
@@ -317,7 +341,7 @@ static void refused(void) {
         const char *frame;
         uint32_t refusal, place;
     } frames[] = {{"", 1, 0}, {"02", 1, 0}, {"03 23 34", 2, 0}, {"02 23", 3, 0}, {"02 22 00 80", 4, 3}, {"02 20 40 10", 5, 2},
-        {"02 10 00 00 00 00 00 00 08", 4, 8}, {"02 0C", 3, 0}, {"02 28", 13, 0}, {"02 0C 00 00 00", 13, 0}};
+        {"02 44 00 00 00 00 00 00 00 00 41", 5, 10}, {"02 10 00 00 00 00 00 00 08", 4, 8}, {"02 0C", 3, 0}, {"02 28", 13, 0}, {"02 0C 00 00 00", 13, 0}};
     const uint64_t kinds[] = {1, 8, 37, 40, 255, 260, ((uint64_t)1 << 32) + 4, UINT64_MAX};
     make(65);
     put(4, "02 23 34");
@@ -345,6 +369,7 @@ void test_books(void) {
     technician();
     sizes();
     both_forms();
+    sync_words();
     tampered();
     refused();
     for (size_t i = 0; i < sizeof good / sizeof *good; i++) history(good[i]);

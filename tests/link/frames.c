@@ -21,7 +21,7 @@ const row rows[KINDS] = {
     {17, "52719 16 1 0 1 2 5534 4 1", "02 41 CD EF 10 16 15 9E 41", "02 41 FF FF 20 1B FF FF C1"},
     {18, "1 3695", "02 42 1E 6F", "02 42 1F FF"},
     {19, "2309737967 1011703407", "02 43 89 AB CD EF 3C 4D 5E 6F", "02 43 FF FF FF FF FF FF FF FF"},
-    {20, "81985529216486895 1 115", "02 44 01 23 45 67 89 AB CD EF F3", "02 44 FF FF FF FF FF FF FF FF FF"},
+    {20, "81985529216486895 1 51", "02 44 01 23 45 67 89 AB CD EF B3", "02 44 FF FF FF FF FF FF FF FF C0"},
     {21, "239 111", "02 45 EF 6F", "02 45 FF FF"},
     {22, "", "02 46", "02 46"},
     {23, "", "02 47", "02 47"},
@@ -97,7 +97,7 @@ static void too_large(const row *r) {
     }
 }
 
-/* Worked examples; what an enum lacks; the unit that kind 17 refuses. */
+/* Worked examples; what an enum lacks; the unit that kind 17 refuses; the length that a sync word can have, a bad order before it. */
 static void examples(void) {
     builds(hb_checked, 1, "7 4 1 0 0", "02 20 74 10", 0, 0);
     builds(hb_checked, 1, "12 7 9 1 3", "02 20 C7 9D", 0, 0);
@@ -109,6 +109,12 @@ static void examples(void) {
     builds(hb_checked, 11, "2 1 258", "02 2B 21 02 01 00 00 00 00 00 00", 0, 0);
     builds(hb_checked, 17, "0 0 0 1 0 0 0 0 0", "", 6, 4);
     builds(hb_checked, 7, "0 0 0 2 0 0", "", 6, 4);
+    builds(hb_checked, 20, "81985529216486895 0 64", "02 44 01 23 45 67 89 AB CD EF 40", 0, 0);
+    builds(hb_checked, 20, "81985529216486895 1 64", "02 44 01 23 45 67 89 AB CD EF C0", 0, 0);
+    builds(hb_checked, 20, "0 1 0", "02 44 00 00 00 00 00 00 00 00 80", 0, 0);
+    builds(hb_checked, 20, "81985529216486895 0 65", "", 6, 3);
+    builds(hb_checked, 20, "81985529216486895 1 127", "", 6, 3);
+    builds(hb_checked, 20, "0 2 65", "", 6, 2);
 }
 
 /* Each refusal of the decoder, at each place where it can be first. */
@@ -120,7 +126,8 @@ static const struct {
     {"02 41 00 00 07 80 00 00 00", 4, 5}, {"02 2E 00 00 00 00 20 20", 4, 6}, {"02 2E 00 00 00 00 00 80", 4, 7},
     {"02 26 00 00 00 00 00 00 80 00 00 00", 4, 8}, {"02 20 40 A0", 5, 2}, {"02 20 74 A0", 5, 3}, {"02 27 00 00 02 00 00 00 00", 5, 4},
     {"02 41 00 00 00 0C 00 00 50", 5, 5}, {"02 1B 00 00 00 00 03 00 00 00", 5, 6}, {"02 40 00 00 00 00 00 01 00 00 00", 5, 7},
-    {"02 41 00 00 00 00 00 00 50", 5, 8}};
+    {"02 41 00 00 00 00 00 00 50", 5, 8}, {"02 44 01 23 45 67 89 AB CD EF 41", 5, 10}, {"02 44 01 23 45 67 89 AB CD EF C1", 5, 10},
+    {"02 44 00 00 00 00 00 00 00 00 7F", 5, 10}};
 
 void test_frames(void) {
     builds_rows(hb_checked);

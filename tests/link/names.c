@@ -1,10 +1,14 @@
-/* The header's names against the library: each kind builds and decodes to itself, the builders take exactly the codes that are named, the sizes
- * are the greatest that come, and the refusals come where their name says. named.h lists the names. */
+/* The header's names against the library: each kind builds and decodes to itself, the builders take exactly the codes and the numbers that it says, the
+ * sizes are the greatest that come, and the refusals come where their name says. named.h lists the names. */
 #include "link.h"
 
 #include "named.h"
 
-enum { COUNT = sizeof named_kinds / sizeof *named_kinds, CODES = sizeof named_codes / sizeof *named_codes };
+enum {
+    COUNT = sizeof named_kinds / sizeof *named_kinds,
+    CODES = sizeof named_codes / sizeof *named_codes,
+    LIMITS = sizeof named_limits / sizeof *named_limits
+};
 
 /* A call that every kind takes: zeros, but for the spreading factor. */
 static size_t plainest(uint64_t kind, uint64_t *args) {
@@ -69,6 +73,25 @@ static void codes(void) {
             same("refusal of hb_plain", plain.refusal, is_code(i, plainly, v) ? 0 : HB_REFUSED_ARGUMENT_OUTSIDE);
             if (!checked.refusal) same("code read back", hb_decode(checked.bytes, checked.len).args[named_codes[i].argument - 1], v);
         }
+    }
+}
+
+/* The greatest number that the header says of an argument is taken, and the next is not; hb_plain takes any. */
+static void limits(void) {
+    for (size_t i = 0; i < LIMITS; i++) {
+        uint64_t args[HB_ARGS_MAX], kind = named_limits[i].kind, *arg = &args[named_limits[i].argument - 1];
+        size_t n = plainest(kind, args);
+        trying("the limit of a kind's argument", "kind", kind);
+        *arg = named_limits[i].most;
+        hb_frame frame = hb_checked(kind, args, n);
+        same("refusal", frame.refusal, 0);
+        same("number read back", hb_decode(frame.bytes, frame.len).args[named_limits[i].argument - 1], *arg);
+        if (*arg == UINT64_MAX) continue;
+        *arg += 1;
+        frame = hb_checked(kind, args, n);
+        same("refusal past the limit", frame.refusal, HB_REFUSED_ARGUMENT_OUTSIDE);
+        same("place", frame.place, named_limits[i].argument);
+        same("refusal of hb_plain", hb_plain(kind, args, n).refusal, 0);
     }
 }
 
@@ -142,6 +165,7 @@ static void refusals(void) {
     same("wrong length", hb_decode((const uint8_t *)"\x02\x23", 2).refusal, HB_REFUSED_WRONG_LENGTH);
     same("stray bit", hb_decode((const uint8_t *)"\x02\x01\x02", 3).refusal, HB_REFUSED_STRAY_BIT);
     same("unknown code", hb_decode((const uint8_t *)"\x02\x20\x40\x10", 4).refusal, HB_REFUSED_UNKNOWN_CODE);
+    same("number over its limit", hb_decode((const uint8_t *)"\x02\x44\0\0\0\0\0\0\0\0\x41", 11).refusal, HB_REFUSED_UNKNOWN_CODE);
     same("response's length", hb_rssi_inst((const uint8_t *)"\0\0\0", 3).refusal, HB_REFUSED_RESPONSE_LENGTH);
     same("cut reel", hb_reel_step((const uint8_t *)"\x02\x28", 2, 0).refusal, HB_REFUSED_REEL_CUT);
     uint8_t book[HB_BOOK_MIN];
@@ -179,6 +203,7 @@ static void statuses(void) {
 void test_names(void) {
     kinds();
     codes();
+    limits();
     books();
     texts();
     dumps();

@@ -12,6 +12,9 @@ void test_plain(void) {
     builds(hb_plain, 18, "0 4096", "02 42 10 00", 0, 0);
     builds(hb_plain, 18, "1 61440", "02 42 F0 00", 0, 0);
     builds(hb_plain, 17, "0 0 0 1 0 0 0 0 0", "02 41 00 00 00 10 00 00 00", 0, 0);
+    builds(hb_plain, 20, "1 1 65", "02 44 00 00 00 00 00 00 00 01 C1", 0, 0);
+    builds(hb_plain, 20, "1 0 127", "02 44 00 00 00 00 00 00 00 01 7F", 0, 0);
+    builds(hb_plain, 20, "1 1 128", "02 44 00 00 00 00 00 00 00 01 80", 0, 0);
     builds(hb_plain, 11, "2 4294967297 258", "02 2B 21 02 01 00 00 00 00 00 00", 0, 0);
     /* No code of its enum; no yes or no. */
     builds(hb_plain, 1, "4 7 9 1 3", "", 6, 1);

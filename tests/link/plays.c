@@ -93,6 +93,9 @@ static const struct {
         {.records = 4, .accepted = 4}, {"02 01 01 07", "02 00 33 BE 27 A0"}},
     {"00 03 00 04 00 03 02 01 01 00 06 02 00 33 BE 27 A0 00 04 02 01 01 07", 71,
         {.records = 3, .accepted = 2, .refused = {[8] = 1}}, {"02 01 01", "02 00 33 BE 27 A0"}},
+    /* A sync word of 64 bits is put, one of 65 refused by 5, and the book keeps the first. */
+    {"00 02 00 04 00 0B 02 44 01 23 45 67 89 AB CD EF C0 00 0B 02 44 01 23 45 67 89 AB CD EF C1", 80,
+        {.records = 2, .accepted = 1, .refused = {[5] = 1}}, {"02 44 01 23 45 67 89 AB CD EF C0"}},
     /* Every other refusal; an action in no counter; a request that is cut or too long is none. */
     {"00 09 00 04 00 00 00 01 02 00 02 03 23 00 03 02 28 00 00 04 02 22 00 80 00 04 02 20 40 10 00 02 02 28 00 03 02 29 00 "
         "01 0C 00 00 00 00 00 00 00 00 00 00 00 00", 62,

@@ -189,12 +189,11 @@ fn decoded(frame: &[u8]) {
 
 // A value that the field allows, often a least or a greatest one.
 pub fn good(field: &model::Field) -> u64 {
-    let most = u64::MAX.checked_shr(64 - field.bits.len() as u32).unwrap_or(0);
     match (field.codes, random() % 3) {
         (Some(codes), _) => codes[random() as usize % codes.len()],
-        (None, 0) => random() & 1 & most,
-        (None, 1) => most,
-        (None, _) => random() & most,
+        (None, 0) => random() & 1 & field.most,
+        (None, 1) => field.most,
+        (None, _) => field.cut(random()),
     }
 }
 

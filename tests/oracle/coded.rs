@@ -1,16 +1,11 @@
 // Requests to the decoder and the checked builder: good frames and arguments, each damaged in every way that is refused.
-use crate::model::{allowed, checked, commands, Built, Command, Field};
+use crate::model::{checked, commands, Built, Command, Field};
 use crate::sets::{Random, Set};
 use std::io::Result;
 
 pub const DECODE: u8 = 80;
 pub const CHECKED: u8 = 81;
 pub const MOST: usize = 12;
-
-// All ones, in so many bits as the field has.
-fn most(field: &Field) -> u64 {
-    u64::MAX.checked_shr(64 - field.bits.len() as u32).unwrap_or(0)
-}
 
 // A value that the field allows.
 fn good(random: &mut Random, field: &Field) -> u64 {
@@ -21,7 +16,7 @@ fn good(random: &mut Random, field: &Field) -> u64 {
     };
     match field.codes {
         Some(codes) => random.one_of(codes),
-        None => any & most(field),
+        None => field.cut(any),
     }
 }
 
@@ -102,11 +97,11 @@ fn random(set: &mut Set, is_wide: bool) -> Result<()> {
 fn limits(set: &mut Set, is_wide: bool) -> Result<()> {
     for c in commands() {
         for (i, f) in c.fields.iter().enumerate() {
-            let mut points = vec![0, most(f), most(f).wrapping_add(1), u64::MAX, 1 << 63, 1 << 32];
+            let mut points = vec![0, f.most, f.most.wrapping_add(1), f.ones(), f.ones().wrapping_add(1), u64::MAX, 1 << 63, 1 << 32];
             if is_wide {
                 points.extend(0..=260);
             } else {
-                points.extend((0..=16).filter(|v| allowed(f, *v) != allowed(f, v + 1)));
+                points.extend((0..=16).filter(|v| f.takes(*v) != f.takes(v + 1)));
             }
             for point in points {
                 let mut values = arguments(&mut set.random, c);
@@ -161,6 +156,29 @@ fn rounds(set: &mut Set, is_wide: bool) -> Result<()> {
     Ok(())
 }
 
+// Sync words of every length that a byte can say, by all three: the plain builder cuts a length, the other two have a limit.
+fn sync_words(set: &mut Set, is_wide: bool) -> Result<()> {
+    let near = [0, 1, 63, 64, 65, 66, 127, 128, 191, 192, 193, 255];
+    let lengths: Vec<u64> = if is_wide { (0..=255).collect() } else { near.to_vec() };
+    for _ in 0..if is_wide { 140 } else { 1 } {
+        for length in &lengths {
+            for order in 0..=1 {
+                let word = set.random.next();
+                set.build(20, &[word, order, *length])?;
+                build(set, 20, &[word, order, *length])?;
+                decode(set, &[&[0x02, 0x44], &word.to_be_bytes()[..], &[*length as u8]].concat())?;
+            }
+        }
+    }
+    // A bad order comes first; lengths whose low bits are good.
+    for length in [64, 65, 1 << 7, (1 << 8) + 64, (1 << 32) + 64, (1 << 63) + 1] {
+        for order in 1..=2 {
+            build(set, 20, &[0, order, length])?;
+        }
+    }
+    Ok(())
+}
+
 pub fn codec(set: &mut Set, is_wide: bool) -> Result<()> {
     set.group("frames decoded: good ones, damaged ones, other lengths, random bytes");
     damaged(set, is_wide)?;
@@ -170,5 +188,7 @@ pub fn codec(set: &mut Set, is_wide: bool) -> Result<()> {
     limits(set, is_wide)?;
     counts(set, is_wide)?;
     kinds(set)?;
-    rounds(set, is_wide)
+    rounds(set, is_wide)?;
+    set.group("lengths of a sync word: plain, checked, decoded");
+    sync_words(set, is_wide)
 }

@@ -6,7 +6,26 @@ pub struct Field {
     pub name: &'static str,
     // The bits that the checked builder and the decoder have; none for kind 17's unit.
     pub bits: Vec<(usize, u32)>,
+    // The greatest number that they take.
+    pub most: u64,
     pub codes: Option<&'static [u64]>,
+}
+
+impl Field {
+    // All ones, in as many bits as the field has.
+    pub fn ones(&self) -> u64 {
+        u64::MAX.checked_shr(64 - self.bits.len() as u32).unwrap_or(0)
+    }
+
+    // Whether the checked builder and the decoder take v.
+    pub fn takes(&self, v: u64) -> bool {
+        v <= self.most && self.codes.map_or(true, |codes| codes.contains(&v))
+    }
+
+    // A number that they take, made of any; all ones give the greatest.
+    pub fn cut(&self, any: u64) -> u64 {
+        if any == u64::MAX { self.most } else { any.checked_rem(self.most.wrapping_add(1)).unwrap_or(any) }
+    }
 }
 
 pub struct Command {
@@ -16,7 +35,8 @@ pub struct Command {
     pub fields: Vec<Field>,
 }
 
-// Kind, opcode and length, and the arguments with their places (REFERENCE, "Commands"); "low" marks the address, whose low byte comes first.
+// Kind, opcode and length, and the arguments with their places (REFERENCE, "Commands"); "low" marks the address, whose low byte comes first, and
+// "to 64" a number that has a limit.
 const LINES: &str = "\
 1 0220/4 sf 2.7-4, lora_bw 2.3-0, lora_cr 3.7-4, ldro 3.1-0, lora_filter 3.3-2
 2 0221/6 pbl_len 2-3, payload_len 4, header_type 5.2, crc_en 5.1, invert_iq 5.0
@@ -37,7 +57,7 @@ const LINES: &str = "\
 17 0241/9 pbl_len_tx 2-3, pbl_len_detect 4, pbl_long 5.4, pld_len_unit none, addr_comp 5.3-2, fsk_pkt_format 5.1-0, pld_len 6-7, crc 8.7-4, dc_free 8.0
 18 0242/4 whiten_type 2.4, init 2.3-0+3
 19 0243/10 polynom 2-5, init 6-9
-20 0244/11 syncword 2-9, bit_order 10.7, nb_bits 10.6-0
+20 0244/11 syncword 2-9, bit_order 10.7, nb_bits 10.6-0 to 64
 21 0245/4 addr_node 2, addr_bcast 3
 22 0246/2
 23 0247/2
@@ -136,15 +156,17 @@ fn command(line: &'static str) -> Command {
         list.split(", ")
             .map(|field| {
                 let (name, place) = field.split_once(' ').expect("a name and a place");
-                Field { name, bits: bits_of(place), codes: codes_of(name) }
+                let (place, limit) = place.split_once(" to ").map_or((place, None), |(place, most)| (place, Some(number(most) as u64)));
+                let field = Field { name, bits: bits_of(place), most: 0, codes: codes_of(name) };
+                Field { most: limit.unwrap_or(field.ones()), ..field }
             })
             .collect()
     });
     Command { kind, opcode, length: number(length), fields }
 }
 
-pub fn value(field: &Field, frame: &[u8]) -> u64 {
-    field.bits.iter().rev().fold(0, |v, (byte, bit)| v << 1 | (frame[*byte] >> bit & 1) as u64)
+pub fn value(bits: &[(usize, u32)], frame: &[u8]) -> u64 {
+    bits.iter().rev().fold(0, |v, (byte, bit)| v << 1 | (frame[*byte] >> bit & 1) as u64)
 }
 
 pub enum Decoded {
@@ -171,21 +193,16 @@ pub fn decode(frame: &[u8]) -> Decoded {
             }
         }
     }
-    let lacking = c.fields.iter().filter(|f| f.codes.map_or(false, |codes| !codes.contains(&value(f, frame))));
+    let lacking = c.fields.iter().filter(|f| !f.takes(value(&f.bits, frame)));
     if let Some(byte) = lacking.map(|f| f.bits.iter().map(|(byte, _)| *byte).min().expect("a bit")).min() {
         return Decoded::Refused(5, byte as u8);
     }
-    Decoded::Kind(c.kind, c.fields.iter().map(|f| value(f, frame)).collect())
+    Decoded::Kind(c.kind, c.fields.iter().map(|f| value(&f.bits, frame)).collect())
 }
 
 pub enum Built {
     Frame(Vec<u8>),
     Refused(u8, u8),
-}
-
-pub fn allowed(field: &Field, v: u64) -> bool {
-    let fits = field.bits.len() == 64 || v >> field.bits.len() == 0;
-    fits && field.codes.map_or(true, |codes| codes.contains(&v))
 }
 
 pub fn checked(kind: u64, arguments: &[u64]) -> Built {
@@ -195,7 +212,7 @@ pub fn checked(kind: u64, arguments: &[u64]) -> Built {
         None => return Built::Refused(13, 0),
     };
     for i in 0..c.fields.len().max(arguments.len()) {
-        let good = i < c.fields.len() && i < arguments.len() && allowed(&c.fields[i], arguments[i]);
+        let good = i < c.fields.len() && i < arguments.len() && c.fields[i].takes(arguments[i]);
         if !good {
             return Built::Refused(6, i as u8 + 1);
         }

@@ -112,7 +112,7 @@ impl Set {
         self.ask(op, aux, &payload)
     }
 
-    fn build(&mut self, kind: u8, values: &[u64]) -> Result<()> {
+    pub fn build(&mut self, kind: u8, values: &[u64]) -> Result<()> {
         let mut payload = [0; PAYLOAD];
         for (i, x) in values.iter().enumerate() {
             payload[8 * i..8 * i + 8].copy_from_slice(&x.to_le_bytes());

@@ -9,7 +9,7 @@ const fn case(name: &'static str, trace: &'static str, report: &'static str) -> 
     Case { name, trace, report }
 }
 
-pub const CASES: [Case; 14] = [
+pub const CASES: [Case; 15] = [
     case(
         "bank-17.trace",
         "00 0D 00 04 00 03 02 23 34 00 06 02 00 33 BE 27 A0 00 04 02 22 05 02 00 02 02 29 01 0C 04 04 00 05 00 00 00 00 00 06 00 01 \
@@ -41,6 +41,12 @@ pub const CASES: [Case; 14] = [
         "00 0A 00 04 00 00 00 01 02 00 02 03 23 00 03 02 28 00 00 05 02 10 00 00 00 00 04 02 22 00 80 00 04 02 20 40 10 \
          00 03 02 23 01 00 03 02 01 01 00 03 02 23 02",
         "records 10\naccepted 3\nrefused 1 2\nrefused 2 1\nrefused 3 2\nrefused 4 1\nrefused 5 1\nskipped 0\nframe 0 4 0 0 2\nframe 1 25 0 0 1\n",
+    ),
+    // A sync word of 64 bits is put, a longer one is refused and changes nothing.
+    case(
+        "sync-word.trace",
+        "00 03 00 04 00 0B 02 44 01 23 45 67 89 AB CD EF C0 00 0B 02 44 01 23 45 67 89 AB CD EF 41 00 0B 02 44 00 00 00 00 00 00 00 00 FF",
+        "records 3\naccepted 1\nrefused 5 2\nskipped 0\nframe 0 20 0 0 81985529216486895 1 64\n",
     ),
     // Responses to nothing, to an action, to a setting, to a frame that is refused, and of another length; then one that fits.
     case(

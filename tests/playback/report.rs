@@ -1,7 +1,7 @@
 // The report of a day, as the program `play` prints it (REFERENCE, "Playback").
 use crate::book::Frame;
 use crate::day::Day;
-use crate::model::{bits_of, decode, value, Decoded, Field};
+use crate::model::{bits_of, decode, value, Decoded};
 use crate::texts::{level, ratio};
 
 // The readings in the order of the requests, with the fields and their places (REFERENCE, "Responses"); a level is a byte and a lower bit.
@@ -14,7 +14,7 @@ const READINGS: [&str; 4] = [
 
 fn field(text: &'static str, bytes: &[u8]) -> String {
     let (name, place) = text.split_once(' ').expect("a name and a place");
-    let count = value(&Field { name, bits: bits_of(place), codes: None }, bytes);
+    let count = value(&bits_of(place), bytes);
     match name {
         "snr_pkt" => format!(" {} {}", name, ratio(count as u8 as i8)),
         _ if name.starts_with("rssi") => format!(" {} {}", name, level(count as u16)),

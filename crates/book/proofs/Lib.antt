@@ -16,5 +16,6 @@ pub mod Loading
 pub mod Full
 pub mod Places
 pub mod Both
+pub mod SyncWord
 pub mod Outcome
 pub mod Examples

@@ -104,7 +104,7 @@ module _ (r vs : List ℕ) (lay : T (layout (lenOf r) (fieldsOf r))) (small : op
       checked-reads (lenOf r) (fieldsOf r) (opOf r ∷ vs) lay many
       (and-in (ltb (opOf r) 65536) (fitting (narrowsOf (numbersOf r)) vs) (lt→ltb (opOf r) 65536 small) (i .fit))
 
-  opcode-back : opcode (frameOf r vs) ≡ opOf r
+  pub opcode-back : opcode (frameOf r vs) ≡ opOf r
   unfolding reads narrowsOf
   opcode-back = let e = read-back in cc
 
@@ -128,7 +128,7 @@ module _ (r vs : List ℕ) (lay : T (layout (lenOf r) (fieldsOf r))) (small : op
       let q : ltb (length (frameOf r vs)) (length (frameOf r vs)) ≡ false = le-ltb (length (frameOf r vs)) (length (frameOf r vs)) (omega arith) in
       simp (stray-back, z, q) (ap (reading k) arguments-back)
 
-decode-found : (f : List ℕ) (i : ℕ) → 2 ≤ length f → find rows (opcode f) (length f) ≡ i → i < kinds → decode f ≡ judged (suc i) (getD rows i []) f
+pub decode-found : (f : List ℕ) (i : ℕ) → 2 ≤ length f → find rows (opcode f) (length f) ≡ i → i < kinds → decode f ≡ judged (suc i) (getD rows i []) f
 unfolding decode sought answered
 decode-found f i h e l = simp (le-ltb (length f) 2 h, e, lt-ltb i kinds l)
 

@@ -3,3 +3,4 @@ pub mod Accepted
 pub mod Narrowing
 pub mod Places
 pub mod Laws
+pub mod SyncWord

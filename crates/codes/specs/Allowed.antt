@@ -9,10 +9,10 @@ use Rattle.table.specs.Codes.{takes}
 abbrev pub fits : ℕ → ℕ → ℕ → Bool
 fits w c v = ltb v (2 ^ w) && takes (codesOf c) v
 
--- the checked builder takes for the field c what fits it and what its enum has (REFERENCE, "Checked builder")
+-- the checked builder takes for the field c what fits it and what its enum has, or its limit allows (REFERENCE, "Checked builder")
 abbrev pub allows : ℕ → ℕ → Bool
 allows c v = fits (narrowOf c .w) c v
 
--- the plain builder takes any number, or a code that the field's enum has (REFERENCE, "Plain builder")
+-- the plain builder takes any number, whatever its limit, or a code that the field's enum has (REFERENCE, "Plain builder")
 abbrev pub accepts : ℕ → ℕ → Bool
 accepts c v = cond (isCode c) (fits (plainOf c .w) c v) true

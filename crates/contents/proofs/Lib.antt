@@ -4,4 +4,5 @@ pub mod Loops
 pub mod Judged
 pub mod Written
 pub mod Places
+pub mod Stored
 pub mod Outcome

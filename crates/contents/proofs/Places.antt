@@ -13,15 +13,19 @@ use Rattle.refusal.specs.Numbers.{numberOf, placeOf}
 use Rattle.contents.specs.Contents.{Contents, Layout, allZero, before, framesFrom, given, holds, judge, lengthAt, longest, presentFrom, refused, start}
 use Rattle.contents.specs.Contents.{wordAt}
 
--- what holds of the refusals of 11 and 10 holds of whatever is refused
-module _ (P : Refusal → Type 0) (size : P BufferSize) (form : P NotWellFormed) where
-  abbrev Says : Contents → Type 0
+-- what holds of the refusal of 10, and of that of 11 where the size is wrong, holds of whatever is refused
+module _ (P : Refusal → Type 0) (form : P NotWellFormed) where
+  abbrev pub Says : Contents → Type 0
   Says (refused x) = P x
   Says (holds fs) = Unit
 
   given-says : (t : Bool) (x : Refusal) (c : Contents) → P x → Says c → Says (given t x c)
   given-says true x c h n = n
   given-says false x c h n = h
+
+  given-told : (t : Bool) (x : Refusal) (c : Contents) → (t ≡ false → P x) → Says c → Says (given t x c)
+  given-told true x c h n = n
+  given-told false x c h n = h refl
 
   frames-say : (m c : ℕ) (b : List ℕ) (p e : ℕ) → Says (framesFrom m c b p e)
   unfolding framesFrom
@@ -34,11 +38,12 @@ module _ (P : Refusal → Type 0) (size : P BufferSize) (form : P NotWellFormed)
       by false (refused x) n = n
       by false (holds fs) n = tt
 
-  judge-says : (l : Layout) (b : List ℕ) → Says (judge l b)
+  pub judge-says : (l : Layout) (b : List ℕ) → (leb (start (l .slots)) (length b) ≡ false → P BufferSize) → (leb (length b) longest ≡ false → P BufferSize)
+      → Says (judge l b)
   unfolding judge
-  judge-says l b =
-      given-says (leb (start (l .slots)) (length b)) BufferSize _ size
-      (given-says (leb (length b) longest) BufferSize _ size
+  judge-says l b short long =
+      given-told (leb (start (l .slots)) (length b)) BufferSize _ short
+      (given-told (leb (length b) longest) BufferSize _ long
       (given-says (eqb (getD b 0 0) (l .version)) NotWellFormed _ form
       (given-says (leb (start (l .slots)) (wordAt b 2)) NotWellFormed _ form
       (given-says (leb (wordAt b 2) (length b)) NotWellFormed _ form
@@ -48,10 +53,11 @@ module _ (P : Refusal → Type 0) (size : P BufferSize) (form : P NotWellFormed)
 
 module _ (l : Layout) (b : List ℕ) (x : Refusal) (e : judge l b ≡ refused x) where
   pub judge-place : placeOf x ≡ 0
-  judge-place = subst (Says (λ y. placeOf y ≡ 0) refl refl) e (judge-says (λ y. placeOf y ≡ 0) refl refl l b)
+  judge-place = subst (Says (λ y. placeOf y ≡ 0) refl) e (judge-says (λ y. placeOf y ≡ 0) refl l b (λ z. refl) (λ z. refl))
 
   pub judge-own : (10 ≤ numberOf x) × (numberOf x ≤ 11)
   judge-own =
       let size : (10 ≤ 11) × (11 ≤ 11) = (omega arith, omega arith) in
       let form : (10 ≤ 10) × (10 ≤ 11) = (omega arith, omega arith) in
-      subst (Says (λ y. (10 ≤ numberOf y) × (numberOf y ≤ 11)) size form) e (judge-says (λ y. (10 ≤ numberOf y) × (numberOf y ≤ 11)) size form l b)
+      subst (Says (λ y. (10 ≤ numberOf y) × (numberOf y ≤ 11)) form) e
+      (judge-says (λ y. (10 ≤ numberOf y) × (numberOf y ≤ 11)) form l b (λ z. size) (λ z. size))

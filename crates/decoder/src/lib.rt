@@ -286,7 +286,7 @@ fn lowered(number: u32, v: u64, low: usize) -> usize
     if f.first < low { f.first } else { low }
 }
 
-// The lowest byte, below n, of a field that holds a code it lacks, or n.
+// The lowest byte, below n, of a field that does not take what it holds, or n.
 fn first_lacking(row: [u32; 13], args: [u64; 9], n: usize) -> usize
     requires { ⌜ countOf row ≤ 9 ⌝ }
     ensures { λ r. ⌜ r ≡ lacking n (numbersOf row) (take (countOf row) args) ⌝ }

@@ -37,9 +37,11 @@ use Rattle.cmd_lora.specs.declared.LoraFilter.{LoraFilter}
 use Rattle.cmd_lora.specs.declared.LoraFilter.the-variants.{Auto, DccF}
 use Rattle.cmd_lora.specs.declared.AddrLen.{AddrLen}
 use Rattle.cmd_lora.specs.declared.AddrLen.the-variants.{Addr2B}
-use Rattle.cmd_fsk.specs.Codes.{whitenTypeCode}
+use Rattle.cmd_fsk.specs.Codes.{whitenTypeCode, bitOrderCode}
 use Rattle.cmd_fsk.specs.declared.WhitenType.{WhitenType}
 use Rattle.cmd_fsk.specs.declared.WhitenType.the-variants.{Sx126xLr11xx}
+use Rattle.cmd_fsk.specs.declared.BitOrder.{BitOrder}
+use Rattle.cmd_fsk.specs.declared.BitOrder.the-variants.{LsbFirst, MsbFirst}
 use Rattle.cmd_common.specs.Codes.{paSelCode, paLfModeCode}
 use Rattle.cmd_common.specs.declared.PaSel.{PaSel}
 use Rattle.cmd_common.specs.declared.PaSel.the-variants.{LfPa, HfPa}
@@ -65,6 +67,14 @@ address len pos addr = addrLenCode len ∷ pos ∷ addr ∷ []
 -- kind 18
 abbrev whitening : WhitenType → ℕ → List ℕ
 whitening type init = whitenTypeCode type ∷ init ∷ []
+
+-- kind 20
+abbrev syncWord : BitOrder → ℕ → List ℕ
+syncWord order bits = 0x0123456789ABCDEF ∷ bitOrderCode order ∷ bits ∷ []
+
+-- the frame of such a sync word, by its last byte
+abbrev syncFrame : ℕ → List ℕ
+syncFrame last = 0x02 ∷ 0x44 ∷ 0x01 ∷ 0x23 ∷ 0x45 ∷ 0x67 ∷ 0x89 ∷ 0xAB ∷ 0xCD ∷ 0xEF ∷ last ∷ []
 
 -- kind 27
 abbrev amplifier : PaSel → PaLfMode → ℕ → ℕ → List ℕ
@@ -185,6 +195,15 @@ cases =
     -- the unit is the fourth of kind 17's nine arguments, and always 0
     ∷ checks 17 (0 ∷ 0 ∷ 0 ∷ 1 ∷ 0 ∷ 0 ∷ 0 ∷ 0 ∷ 0 ∷ []) (refused 6 4)
     ∷ decodes (0x02 ∷ 0x41 ∷ 0 ∷ 0 ∷ 0x08 ∷ 0x10 ∷ 0 ∷ 0 ∷ 0 ∷ []) (accepted (17 ∷ 0 ∷ 8 ∷ 1 ∷ 0 ∷ 0 ∷ 0 ∷ 0 ∷ 0 ∷ 0 ∷ []))
+    -- a sync word has 64 bits, and says no more of them, whichever bit goes first; the plain builder masks
+    ∷ checks 20 (syncWord MsbFirst 64) (accepted (syncFrame 0xC0))
+    ∷ checks 20 (syncWord MsbFirst 65) (refused 6 3)
+    ∷ gives 20 (syncWord MsbFirst 65) (syncFrame 0xC1)
+    ∷ gives 20 (syncWord MsbFirst 128) (syncFrame 0x80)
+    ∷ decodes (syncFrame 0xC0) (accepted (20 ∷ syncWord MsbFirst 64))
+    ∷ decodes (syncFrame 0x40) (accepted (20 ∷ syncWord LsbFirst 64))
+    ∷ decodes (syncFrame 0x41) (refused 5 10)
+    ∷ decodes (syncFrame 0xC1) (refused 5 10)
     -- opcode and length tell the kind together
     ∷ decodes (0x03 ∷ 0x20 ∷ 0x74 ∷ 0x10 ∷ []) (refused 2 0)
     ∷ decodes (0x02 ∷ 0x0C ∷ []) (refused 3 0)

@@ -15,9 +15,9 @@ numberOf UnknownOpcode = 2
 numberOf WrongLength = 3
 -- a bit is 1 that belongs to no field
 numberOf (StrayBit at) = 4
--- a field of an enum holds a number that is no value of it
+-- a field of an enum holds a number that is no value of it, or the field of a number one that is over its limit
 numberOf (UnknownCode at) = 5
--- an argument of a builder that its field or its enum does not have, or one too few or too many
+-- an argument of a builder that its field, its limit or its enum does not have, or one too few or too many
 numberOf (ArgumentOutside at) = 6
 -- a response of another length than its own
 numberOf ResponseLength = 7

@@ -33,7 +33,7 @@ byte b = wide b b
 abbrev pub lowFirst : ℕ → ℕ → ℕ
 lowFirst a e = number a 1 0 (8 * (e + 1 - a)) 0 0
 
--- the field c, taking no code above n
+-- the field c, taking nothing above n, which is 1 to 255: no such code, or no such number
 abbrev pub upTo : ℕ → ℕ → ℕ
 upTo n c = c + n
 

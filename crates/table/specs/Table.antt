@@ -76,8 +76,8 @@ rows =
     ∷ row 0x0242 4 14 (code (bit 2 4) ∷ narrowed 12 (wide 2 3) ∷ [])
     -- kind 19: polynom at 2-5, init at 6-9
     ∷ row 0x0243 10 15 (wide 2 5 ∷ wide 6 9 ∷ [])
-    -- kind 20: syncword at 2-9, bit_order at 10.7, nb_bits at 10.6-0
-    ∷ row 0x0244 11 16 (wide 2 9 ∷ code (bit 10 7) ∷ bits 10 6 0 ∷ [])
+    -- kind 20: syncword at 2-9, bit_order at 10.7, nb_bits at 10.6-0, up to the 64 bits that the syncword has
+    ∷ row 0x0244 11 16 (wide 2 9 ∷ code (bit 10 7) ∷ upTo 64 (bits 10 6 0) ∷ [])
     -- kind 21: addr_node at 2, addr_bcast at 3
     ∷ row 0x0245 4 17 (byte 2 ∷ byte 3 ∷ [])
     -- kind 22: no arguments
