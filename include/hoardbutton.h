@@ -195,7 +195,7 @@ extern "C" {
 /* Sets the FSK sync word.
  *   syncword   any number       the sync word
  *   bit_order  HB_BIT_ORDER_..  which bit goes first over the air
- *   nb_bits    0 to 64          its length, in bits */
+ *   nb_bits    0 to 64          its length, in bits; the plain builder cuts it to seven bits */
 #define HB_SET_FSK_SYNC_WORD 20
 
 /* Sets the addresses by which FSK packets are filtered.

@@ -66,11 +66,11 @@ pub fn good(random: &mut Random, kind: u64) -> Vec<u8> {
 
 // A good frame but for one enum or one number with a limit, which is any that its field can hold.
 fn strange(random: &mut Random) -> Vec<u8> {
-    let kind = random.one_of(&[1, 7, 11, 14, 16, 17, 20, 33, 35, 39]);
+    let holds_more = |f: &&Field| f.most < f.ones() || f.codes.map_or(false, |codes| (codes.len() as u64) <= f.ones());
+    let strict: Vec<(u64, &Field)> = commands().iter().flat_map(|c| c.fields.iter().filter(holds_more).map(move |f| (c.kind, f))).collect();
+    let (kind, field) = random.one_of(&strict);
     let mut frame = good(random, kind);
-    let command = commands().iter().find(|c| c.kind == kind).expect("a kind");
-    let limited: Vec<&Field> = command.fields.iter().filter(|f| f.codes.is_some() || f.most < f.ones()).collect();
-    for (byte, bit) in &limited[random.below(limited.len())].bits {
+    for (byte, bit) in &field.bits {
         frame[*byte] = frame[*byte] & !(1 << bit) | (random.below(2) as u8) << bit;
     }
     frame

@@ -191,7 +191,7 @@ fn decoded(frame: &[u8]) {
 pub fn good(field: &model::Field) -> u64 {
     match (field.codes, random() % 3) {
         (Some(codes), _) => codes[random() as usize % codes.len()],
-        (None, 0) => random() & 1 & field.most,
+        (None, 0) => field.cut(random() & 1),
         (None, 1) => field.most,
         (None, _) => field.cut(random()),
     }

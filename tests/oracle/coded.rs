@@ -160,7 +160,7 @@ fn rounds(set: &mut Set, is_wide: bool) -> Result<()> {
 fn sync_words(set: &mut Set, is_wide: bool) -> Result<()> {
     let near = [0, 1, 63, 64, 65, 66, 127, 128, 191, 192, 193, 255];
     let lengths: Vec<u64> = if is_wide { (0..=255).collect() } else { near.to_vec() };
-    for _ in 0..if is_wide { 140 } else { 1 } {
+    for _ in 0..if is_wide { 200 } else { 1 } {
         for length in &lengths {
             for order in 0..=1 {
                 let word = set.random.next();

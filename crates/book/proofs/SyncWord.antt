@@ -33,7 +33,7 @@ syncWordAt b = offsetAt b (slotFor 20)
 abbrev pub nbBitsAt : List ℕ → ℕ
 nbBitsAt b = getD b (syncWordAt b + 10) 0 % 128
 
-module _ (b : List ℕ) (B : Bytes b) (at : syncWordAt b ≡ 0 → ⊥) where
+module _ (b : List ℕ) (B : Bytes b) (present : syncWordAt b ≡ 0 → ⊥) where
   f : List ℕ
   f = storedAt b (slotFor 20)
 
@@ -48,7 +48,7 @@ module _ (b : List ℕ) (B : Bytes b) (at : syncWordAt b ≡ 0 → ⊥) where
   judged-sync-word : (fs : List (List ℕ)) → judge ours b ≡ holds fs → nbBitsAt b ≤ 64
   unfolding f slotFor
   judged-sync-word fs e =
-      let d : DecodesTo 20 f = slot-decodes 20 f (omega arith) (stored-decodes ours b fs e 16 (omega arith) at) in
+      let d : DecodesTo 20 f = slot-decodes 20 f (omega arith) (stored-decodes ours b fs e 16 (omega arith) present) in
       let m : nbBitsIn f ≤ 64 = sync-word-most f (d .arguments) bytes (d .reads) in
       omega (arith, byte-at 10 (omega arith))
     where

@@ -1,5 +1,5 @@
 // The builders by number: the frame of a kind for its arguments, by the one table, or why there is none. `checked` takes what the kind's
-// fields and enums have; `plain` takes what the typed builder could be called with, and masks.
+// fields, limits and enums allow; `plain` takes what the typed builder could be called with, and masks.
 // The laws that tie them to each other and to the decoder are codec's (proofs/Laws.antt).
 ghost use mathlib.Core.Path.{_≡_};
 ghost use mathlib.Core.List.{_∷_};

@@ -1,30 +1,31 @@
--- A sync word has 64 bits, and no more of them can be meant: the limit of kind 20's nb_bits, in bytes and in numbers.
---     sync-word-decoded          a frame of 02 44 and 11 bytes decodes, to kind 20, exactly if its nb_bits is at most 64, and else gets 5 at byte 10
---     sync-word-most             whatever decodes to kind 20 has at most 64
---     sync-word-checked          the checked builder takes an nb_bits exactly if it is at most 64, and else gives 6 at argument 3
---     sync-word-plain            the plain builder by number takes every nb_bits, and puts its low seven bits
+-- How long a sync word can be: the field has 64 bits, so at most 64 of them can be meant. The limit of kind 20's nb_bits, in bytes and in numbers.
+--     sync-word-decoded    11 bytes that begin with 02 44 decode, to kind 20, exactly if their nb_bits is at most 64, and else get 5 at byte 10
+--     sync-word-most       whatever decodes to kind 20 has an nb_bits of at most 64
+--     sync-word-checked    beside a good sync word and order the checked builder takes an nb_bits exactly if it is at most 64, and else gives
+--                          6 at argument 3
+--     sync-word-plain      the plain builder by number takes every nb_bits
+--     sync-word-masked     and a plain frame has in byte 10 the order and the low seven bits of nb_bits, whatever that is
 -- Assumes nothing.
 use mathlib.Core.Path.{_≡_, refl, sym, ap, ap₂, _∙_}
 use mathlib.Core.Bool.{Bool, true, false, cond, _&&_}
 use mathlib.Core.List.{List, [], _∷_}
-use Prim.Native.Nat.{ℕ, _-_, _/_, _%_, _^_, _≤_, _<_, min}
+use Prim.Native.Nat.{ℕ, _+_, _-_, _*_, _/_, _%_, _^_, _≤_, _<_, min}
 use native.Mathlib.Nat.{mod-eq-of-lt}
 use native.Mathlib.Omega.{arith}
 use borrow.Author.Tests.{leb-true, lt-ltb, le-ltb, ltb-false}
-use lib.Bits.{bitAnd, and-mask}
+use lib.Bits.{bitAnd, bitOr, and-mask, or-shifted, or-zero-l, or-zero-r}
 use lib.Dec.{T, eqb, leb, ltb, eqb→eq, lt→ltb}
 use lib.ListN.{length, getD}
-use Rattle.frame.specs.Field.{mask, read, readTo}
-use Rattle.frame.specs.Layout.{bytes, maskOf, reads, cut}
-use Rattle.frame.proofs.Fields.{and-in}
-use Rattle.table.specs.Number.{bit, bits, wide, code, upTo, narrowOf, narrowsOf, plainOf}
+use Rattle.frame.specs.Field.{mask, part, read, readTo}
+use Rattle.frame.specs.Layout.{bytes, byteOf, maskOf, reads}
+use Rattle.frame.proofs.Fields.{and-in, getD-tab}
+use Rattle.table.specs.Number.{bit, bits, wide, code, upTo, narrowOf, narrowsOf, plainOf, plainsOf}
 use Rattle.table.specs.Codes.{takes}
-use Rattle.table.specs.Table.{rows, opOf, numbersOf, rowOf, plain}
+use Rattle.table.specs.Table.{rows, opOf, numbersOf, opNumber, rowOf, plain}
 use Rattle.table.specs.Narrowed.{fieldsOf, frameOf, opcode, argumentsIn}
 use Rattle.table.specs.Laid.{find}
 use Rattle.table.proofs.Below.{below, below-at}
-use Rattle.table.proofs.Rows.{row-laid, row-found}
-use Rattle.table.proofs.Masked.{plain-masked}
+use Rattle.table.proofs.Rows.{row-laid, row-found, plain-is}
 use Rattle.refusal.specs.declared.Refusal.the-variants.{UnknownCode, ArgumentOutside}
 use Rattle.codes.specs.Allowed.{allows}
 use Rattle.decoder.specs.Decoding as decoder
@@ -163,13 +164,26 @@ module _ (syncword order nb : ℕ) (yes : order < 2) where
           c ∙ ap makes (sym (plain-checked 20 vs (frameOf (rowOf 20) vs) c))
       by false e = made (At 3) (misfit wide ∙ ap (λ (t : Bool). cond t None (At 3)) e)
 
-  pub sync-word-plain : plainBy 20 vs ≡ makes (plain 20 (syncword ∷ order ∷ nb % 128 ∷ []))
-  unfolding takes plainOf cut
-  sync-word-plain =
-      plain-takes 20 vs tt (tt, (and-in (ltb order 2) true (lt→ltb order 2 yes) tt, (tt, tt)))
-      ∙ ap makes
-      (plain-masked 19 (omega arith) vs (syncword ∷ order ∷ nb % 128 ∷ [])
-      (ap (λ (n : ℕ). 0x0244 ∷ syncword % 2 ^ 64 ∷ order % 2 ∷ n ∷ []) (twice nb)))
+  pub sync-word-plain : plainBy 20 vs ≡ makes (plain 20 vs)
+  unfolding takes plainOf
+  sync-word-plain = plain-takes 20 vs tt (tt, (and-in (ltb order 2) true (lt→ltb order 2 yes) tt, (tt, tt)))
+
+  pub sync-word-masked : getD (plain 20 vs) 10 0 ≡ order * 128 + nb % 128
+  unfolding byteOf part plainOf
+  sync-word-masked =
+      ap (λ (f : List ℕ). getD f 10 0) (plain-is 19 (omega arith) vs)
+      ∙ getD-tab 11 (byteOf (plainsOf (opNumber ∷ numbersOf (rowOf 20))) (0x0244 ∷ vs)) 10 (omega arith) ∙ joined
     where
-      twice : (n : ℕ) → n % 128 ≡ n % 128 % 128
-      twice n = omega arith
+      order-is : order / 1 % 2 * 128 ≡ order * 128
+      order-is = omega arith
+
+      nb-is : nb / 1 % 128 * 1 ≡ nb % 128
+      nb-is = omega arith
+
+      small : nb % 128 < 2 ^ 7
+      small = omega arith
+
+      -- the opcode and the sync word have no bit of byte 10
+      joined : byteOf (plainsOf (opNumber ∷ numbersOf (rowOf 20))) (0x0244 ∷ vs) 10 ≡ order * 128 + nb % 128
+      joined =
+          or-zero-l _ ∙ or-zero-l _ ∙ ap₂ bitOr order-is (or-zero-r _ ∙ nb-is) ∙ or-shifted order 7 (nb % 128) small

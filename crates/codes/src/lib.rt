@@ -51,7 +51,7 @@ fn is_listed(list: usize, v: u64) -> bool
     false
 }
 
-// Whether the field takes v, so far as codes go.
+// Whether the field takes v, so far as codes and limits go.
 pub fn is_taken(number: u32, v: u64) -> bool
     ensures { λ r. ⌜ r ≡ takes (codesOf number) v ⌝ }
 {

@@ -19,13 +19,12 @@ module _ (P : Refusal → Type 0) (form : P NotWellFormed) where
   Says (refused x) = P x
   Says (holds fs) = Unit
 
-  given-says : (t : Bool) (x : Refusal) (c : Contents) → P x → Says c → Says (given t x c)
-  given-says true x c h n = n
-  given-says false x c h n = h
-
   given-told : (t : Bool) (x : Refusal) (c : Contents) → (t ≡ false → P x) → Says c → Says (given t x c)
   given-told true x c h n = n
   given-told false x c h n = h refl
+
+  given-says : (t : Bool) (x : Refusal) (c : Contents) → P x → Says c → Says (given t x c)
+  given-says t x c h n = given-told t x c (λ z. h) n
 
   frames-say : (m c : ℕ) (b : List ℕ) (p e : ℕ) → Says (framesFrom m c b p e)
   unfolding framesFrom

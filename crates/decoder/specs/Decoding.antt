@@ -56,7 +56,7 @@ lackingAt r f = lacking (length f) (numbersOf r) (argumentsIn r f)
 abbrev pub refusedAt : (ℕ → Refusal) → ℕ → List ℕ → Reading → Reading
 refusedAt why p f rest = cond (ltb p (length f)) (refuses (why p)) rest
 
--- a frame with the opcode and the length of the row r; a stray bit anywhere is told before any code
+-- a frame with the opcode and the length of the row r; a stray bit anywhere is told before any field that does not take what it holds
 unfoldable pub judged : ℕ → List ℕ → List ℕ → Reading
 judged kind r f = refusedAt StrayBit (strayAt r f) f (refusedAt UnknownCode (lackingAt r f) f (reading kind (argumentsIn r f)))
 

@@ -81,12 +81,12 @@ AllWhole whole b (c ∷ cs) = Whole whole b c × AllWhole whole b cs
 abbrev pub nine : ℕ → ℕ → ℕ → ℕ → ℕ → ℕ → ℕ → ℕ → ℕ → List ℕ
 nine c0 c1 c2 c3 c4 c5 c6 c7 c8 = c0 ∷ c1 ∷ c2 ∷ c3 ∷ c4 ∷ c5 ∷ c6 ∷ c7 ∷ c8 ∷ []
 
--- whether each of these fields holds a code that it takes
+-- whether each of these fields takes what it holds
 unfoldable pub allTaken : List ℕ → (ℕ → ℕ) → Bool
 allTaken [] b = true
 allTaken (c ∷ cs) b = takes (codesOf c) (read (narrowOf c) b) && allTaken cs b
 
--- whether a frame has no stray bit for the row, and each of its codes is taken
+-- whether a frame has no stray bit for the row, and each field takes what it holds
 abbrev pub goodFrame : List ℕ → List ℕ → Bool
 goodFrame r f = cleanFrame r f && allTaken (numbersOf r) (bytes f)
 

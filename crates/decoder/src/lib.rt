@@ -196,7 +196,7 @@ fn both(a: bool, b: bool) -> bool
     if a { b } else { false }
 }
 
-// The numbers that nine fields of a frame hold; whether no bit is stray for the row at a place, and each code is taken.
+// The numbers that nine fields of a frame hold; whether no bit is stray for the row at a place, and each number is taken.
 // Straight code over single numbers, so that it can be written out for each row with that row's constants.
 fn read_fields(
     place: usize,

@@ -144,7 +144,7 @@ const FIRST_FSK: usize = 15;
 
 const FIRST_COMMON: usize = 23;
 
-// The arguments of a frame with the length of the row at a place; whether it has no stray bit, and each of its codes is taken.
+// The arguments of a frame with the length of the row at a place; whether it has no stray bit, and each of them is taken.
 pub(crate) fn read_row(i: usize, frame: &[u8], args: &mut [u64; 9]) -> bool
     requires { ⌜ (i < kinds) × (lenOf (rowAt i) ≡ length (now frame)) ⌝ }
     ensures { λ r. ⌜ (r ≡ goodFrame (rowAt i) (now (frame .entry))) × (now (args .exit) ≡ nineIn (rowAt i) (now (frame .entry))) ⌝ }

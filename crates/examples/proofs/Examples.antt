@@ -195,7 +195,7 @@ cases =
     -- the unit is the fourth of kind 17's nine arguments, and always 0
     ∷ checks 17 (0 ∷ 0 ∷ 0 ∷ 1 ∷ 0 ∷ 0 ∷ 0 ∷ 0 ∷ 0 ∷ []) (refused 6 4)
     ∷ decodes (0x02 ∷ 0x41 ∷ 0 ∷ 0 ∷ 0x08 ∷ 0x10 ∷ 0 ∷ 0 ∷ 0 ∷ []) (accepted (17 ∷ 0 ∷ 8 ∷ 1 ∷ 0 ∷ 0 ∷ 0 ∷ 0 ∷ 0 ∷ 0 ∷ []))
-    -- a sync word has 64 bits, and says no more of them, whichever bit goes first; the plain builder masks
+    -- a sync word has at most 64 bits, whichever of them goes first; the plain builder masks
     ∷ checks 20 (syncWord MsbFirst 64) (accepted (syncFrame 0xC0))
     ∷ checks 20 (syncWord MsbFirst 65) (refused 6 3)
     ∷ gives 20 (syncWord MsbFirst 65) (syncFrame 0xC1)

@@ -17,7 +17,7 @@ numberOf WrongLength = 3
 numberOf (StrayBit at) = 4
 -- a field of an enum holds a number that is no value of it, or the field of a number one that is over its limit
 numberOf (UnknownCode at) = 5
--- an argument of a builder that its field, its limit or its enum does not have, or one too few or too many
+-- an argument of a builder that is outside its field, over its limit or no value of its enum, or one too few or too many
 numberOf (ArgumentOutside at) = 6
 -- a response of another length than its own
 numberOf ResponseLength = 7

@@ -3,5 +3,4 @@ pub mod Past
 pub mod Then
 pub mod Cells
 pub mod Rows
-pub mod Masked
 pub mod Outcome

@@ -49,6 +49,6 @@ unfoldable pub isIn : ℕ → List ℕ → Bool
 isIn v [] = false
 isIn v (x ∷ xs) = cond (eqb v x) true (isIn v xs)
 
--- whether the codes of a field (`codesOf` its number) have v
+-- whether a field takes v, by its codes or its limit (`codesOf` its number)
 unfoldable pub takes : ℕ → ℕ → Bool
 takes codes v = cond (eqb codes 0) true (cond (ltb codes 256) (leb v codes) (isIn v (getD lists (codes - 256) [])))
