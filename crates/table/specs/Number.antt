@@ -1,4 +1,4 @@
--- A field of the table as one number, which says its place, its plain and its narrowed width, its codes or limit, and whether its argument is a code;
+-- A field of the table as one number, which says its place, its plain and its narrowed width, its codes, and whether its argument is one;
 -- the notation that makes such numbers, and what a number says.
 -- Assumes nothing.
 use Prim.Native.Nat.{ℕ, _+_, _-_, _*_, _/_, _%_}
