@@ -93,7 +93,7 @@ fn call(record: &Record) -> Option<usize> {
     })
 }
 
-// The length of a sync word, in bits: kind 20 is 02 44 and eleven bytes.
+// The length of a sync word, in bits: kind 20 has eleven bytes and begins with 02 44.
 fn sync_word(frame: &[u8]) -> Option<u8> {
     if frame.len() == 11 && frame.starts_with(&[0x02, 0x44]) { Some(frame[10] % 128) } else { None }
 }

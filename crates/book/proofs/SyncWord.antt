@@ -11,11 +11,11 @@ use lib.ListN.{drop, getD, length, length-take}
 use lib.Seq.{getD-drop, getD-take}
 use Rattle.frame.proofs.OneField.{le-or-lt}
 use Rattle.refusal.specs.declared.Refusal.the-variants.{NotWellFormed}
-use Rattle.settings.specs.Settings.{lengths, sizeOf, slotFor}
-use Rattle.contents.specs.Contents.{holds, judge, offsetAt}
+use Rattle.settings.specs.Settings.{lengths, sizeOf, slotFor, slotOf}
+use Rattle.contents.specs.Contents.{holds, offsetAt}
 use Rattle.contents.proofs.Judged.{Bytes}
 use Rattle.contents.proofs.Loops.{getD-past}
-use Rattle.contents.proofs.Stored.{storedAt, stored-decodes, misformed}
+use Rattle.contents.proofs.Stored.{storedAt, stored-decodes, undecoded-ten}
 use Rattle.codec.proofs.SyncWord.{nbBitsIn, sync-word-most}
 use Rattle.book.specs.declared.Answer.the-variants.{Refused}
 use Rattle.book.specs.Book.{opened, ours}
@@ -27,7 +27,6 @@ use Rattle.book.proofs.Laws.{DecodesTo, slot-decodes}
 
 -- the offset of kind 20's frame, and the nb_bits that stands behind it
 abbrev pub syncWordAt : List ℕ → ℕ
-unfolding slotFor
 syncWordAt b = offsetAt b (slotFor 20)
 
 abbrev pub nbBitsAt : List ℕ → ℕ
@@ -45,10 +44,11 @@ module _ (b : List ℕ) (B : Bytes b) (present : syncWordAt b ≡ 0 → ⊥) whe
   unfolding f sizeOf lengths slotFor
   short = simp length-take (omega arith)
 
-  judged-sync-word : (fs : List (List ℕ)) → judge ours b ≡ holds fs → nbBitsAt b ≤ 64
-  unfolding f slotFor
-  judged-sync-word fs e =
-      let d : DecodesTo 20 f = slot-decodes 20 f (omega arith) (stored-decodes ours b fs e 16 (omega arith) present) in
+  -- what stands there has at most 64 bits, if it decodes to kind 20
+  decoded-sync-word : slotOf f ≡ slotFor 20 → nbBitsAt b ≤ 64
+  unfolding slotFor
+  decoded-sync-word e =
+      let d : DecodesTo 20 f = slot-decodes 20 f (omega arith) e in
       let m : nbBitsIn f ≤ 64 = sync-word-most f (d .arguments) bytes (d .reads) in
       omega (arith, byte-at 10 (omega arith))
     where
@@ -58,9 +58,12 @@ module _ (b : List ℕ) (B : Bytes b) (present : syncWordAt b ≡ 0 → ⊥) whe
           (λ h. omega (arith, byte-at i h, B (syncWordAt b + i))) (le-or-lt 11 i)
 
   pub opened-sync-word : (fs : List (List ℕ)) → opened ours b ≡ holds fs → nbBitsAt b ≤ 64
-  opened-sync-word fs e = judged-sync-word fs (opened-judge ours b fs e)
+  unfolding f slotFor
+  opened-sync-word fs e = decoded-sync-word (stored-decodes ours b fs (opened-judge ours b fs e) (slotFor 20) (omega arith) present)
 
   pub long-sync-word : 62 ≤ length b → length b ≤ 4096 → 64 < nbBitsAt b
       → (c : Call) → isMake c ≡ false → after ours c b ≡ record { answer = Refused NotWellFormed; output = lentTo c; bytes = b }
+  unfolding f slotFor
   long-sync-word low high long c n =
-      ten-first ours b c n NotWellFormed (misformed ours b low high (λ fs e. absurd (let h = judged-sync-word fs e in omega arith)))
+      ten-first ours b c n NotWellFormed
+      (undecoded-ten ours b low high (slotFor 20) (omega arith) present (λ e. let h = decoded-sync-word e in omega arith))

@@ -1,4 +1,4 @@
--- The quick tests and the places: two words lie under their masks exactly if no bit is stray, and all codes are taken exactly if none lacks.
+-- The quick tests and the places: two words lie under their masks exactly if no bit is stray, and all numbers are taken exactly if none lacks.
 -- Assumes nothing.
 use mathlib.Core.Path.{_≡_, refl, sym, ap, ap₂, _∙_, subst}
 use mathlib.Core.Logic.{⊎-elim}
@@ -124,7 +124,7 @@ unfoldable pub startBelow : ℕ → List ℕ → Bool
 startBelow n [] = true
 startBelow n (c ∷ cs) = ltb (narrowOf c .first) n && startBelow n cs
 
--- where some field holds a code that it does not take, one lacks its code, and lies in the frame
+-- where some field does not take what it holds, one is lacking, and lies in the frame
 lacking-lt : (n : ℕ) (cs : List ℕ) (b : ℕ → ℕ) → T (startBelow n cs) → allTaken cs b ≡ false → lacking n cs (reads (narrowsOf cs) b) < n
 unfolding startBelow allTaken lacking reads narrowsOf
 lacking-lt n [] b t e = absurd (subst T e tt)

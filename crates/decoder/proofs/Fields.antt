@@ -1,4 +1,4 @@
--- The fields of a row one by one: what each holds, and whether its codes have it. Assumes nothing.
+-- The fields of a row one by one: what each holds, and whether it takes that. Assumes nothing.
 use mathlib.Core.Path.{_≡_, refl, sym, ap, ap₂, _∙_}
 use mathlib.Core.Bool.{Bool, true, false, cond}
 use mathlib.Core.List.{List, [], _∷_}
@@ -56,7 +56,7 @@ get-read s f h = simp (sound-holds 16 f h)
 
 -- ---- codes that are taken
 
--- where each field holds a code that it takes, none lacks its code
+-- where each field takes what it holds, none is lacking
 pub taken-none : (n : ℕ) (cs : List ℕ) (b : ℕ → ℕ) → T (allTaken cs b) → lacking n cs (reads (narrowsOf cs) b) ≡ n
 unfolding allTaken lacking reads narrowsOf
 taken-none n [] b t = refl

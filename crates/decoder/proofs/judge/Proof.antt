@@ -1,4 +1,4 @@
--- Each return says what the specification says; a frame that is not good is refused by a stray bit, or else by a code. Assumes nothing.
+-- Each return says what the specification says; a frame that is not good is refused by a stray bit, or else by a field. Assumes nothing.
 use mathlib.Core.Path.{_≡_, refl, sym, ap, _∙_, subst}
 use mathlib.Core.Bool.{true, false, _&&_}
 use mathlib.Core.List.{List}
