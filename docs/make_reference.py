@@ -303,6 +303,22 @@ def c_refusals(data):
             for r in data["refusals"]]
 
 
+def c_slots(data):
+    """The slots of the settings, by kinds in a row."""
+    runs = []
+    for k in data["kinds"]:
+        if k["slot"] is not None and runs and runs[-1][-1]["kind"] == k["kind"] - 1:
+            runs[-1].append(k)
+        elif k["slot"] is not None:
+            runs.append([k])
+
+    def span(first, last):
+        return str(first) if first == last else "%d %s %d" % (first, "and" if last == first + 1 else "to", last)
+
+    texts = ["%s %s %s" % (span(r[0]["kind"], r[-1]["kind"]), "has" if len(r) == 1 else "have", span(r[0]["slot"], r[-1]["slot"])) for r in runs]
+    return comment("The slots of the kinds: %s." % ", ".join(texts))
+
+
 def c_sizes(data):
     return ["#define %s %d /* %s */" % (name, value, text) for name, value, text in data["sizes"]]
 
@@ -347,7 +363,7 @@ MADE = {
     "docs/REFERENCE.md": {"commands": md_commands, "arguments": md_arguments, "enums": md_enums, "status": md_status,
                           "interrupts": md_interrupts, "responses": md_responses, "LoraBw": md_lora_bw, "RxBw": md_rx_bw,
                           "refusals": md_refusals, "order": md_order, "calls": md_calls, "forms": md_forms, "sizes": md_sizes},
-    "include/hoardbutton.h": {"sizes": c_sizes, "refusals": c_refusals, "kinds": c_kinds, "codes": c_codes, "status": c_status,
+    "include/hoardbutton.h": {"sizes": c_sizes, "refusals": c_refusals, "kinds": c_kinds, "codes": c_codes, "slots": c_slots, "status": c_status,
                               "interrupts": c_interrupts},
     "tests/link/named.h": {None: c_named},
 }

@@ -1,4 +1,5 @@
-/* Hoardbutton for C: frames of the LR2021 radio, its status and responses, a settings book in a lent buffer, recorded days, reels and dumps.
+/* Hoardbutton for C: frames of the LR2021 radio, its status and responses, a settings book in a lent buffer, which two sides may share,
+ * recorded days, reels and dumps.
  *
  * Every function answers every input; none traps, allocates, keeps a pointer or touches a global, so all may be called from several threads
  * and from an interrupt at the same time, as long as no buffer is written by one call while another has it. A refusal is one of
@@ -50,7 +51,7 @@ extern "C" {
 #define HB_REFUSED_UNKNOWN_CODE 5 /* an argument's bits are no code of its enum, or a number over its limit; place: the lowest such byte of the frame, from 0 */
 #define HB_REFUSED_ARGUMENT_OUTSIDE 6 /* an argument is missing, surplus, or not one that its builder takes; place: the first such argument, from 1 */
 #define HB_REFUSED_RESPONSE_LENGTH 7 /* a response has not its length */
-#define HB_REFUSED_NO_ROOM 8 /* the frames of the book would end behind its buffer */
+#define HB_REFUSED_NO_ROOM 8 /* the frames of the book would end behind its buffer, or those of a side exceed its quota */
 #define HB_REFUSED_NOT_HELD 9 /* the book has no frame of that kind */
 #define HB_REFUSED_NOT_WELL_FORMED 10 /* the bytes are no well formed book */
 #define HB_REFUSED_BUFFER_SIZE 11 /* the book's buffer is shorter than 62 bytes or longer than 4,096 */
@@ -59,6 +60,8 @@ extern "C" {
 #define HB_REFUSED_REEL_CUT 14 /* the reel breaks off within a frame, or the place lies behind it */
 #define HB_REFUSED_TRACE_FAULT 15 /* a trace's header or one of its records breaks off, its first record would stand within the header, or a direction is neither 0 nor 1; place: the byte of the trace where the record starts, from 0; 0 for the header */
 #define HB_REFUSED_BOTH_FORMS 16 /* the book holds a setting in both its forms */
+#define HB_REFUSED_OWNERS_WRONG 17 /* an owner table has not 29 entries, an owner or the caller is neither 1 nor 2, the two forms of a setting have two owners, the quotas together exceed the buffer's length less 62, or a side holds more than its quota */
+#define HB_REFUSED_OTHER_SIDE 18 /* the kind is the other side's */
 /* end: refusals */
 
 /* ---- kinds: each with its arguments in their order. A code is one of the constants named, a yes is 1 and a no is 0; hb_plain takes any
@@ -629,6 +632,43 @@ hb_answer hb_book_clear(uint8_t *book, size_t len);
 
 /* Writes all frames, at most HB_REPLAY_MAX bytes, to the front of out as a reel, and keeps the rest of it. Refuses 11, 10, 16, 12. */
 hb_answer hb_book_replay(const uint8_t *book, size_t len, uint8_t *out, size_t out_len);
+
+/* ---- a book that two sides share, 1 and 2. The owner table beside it has HB_SETTINGS bytes, one for each slot: the side whose setting it is.
+ * Both forms of a setting have one owner. quota1 and quota2 are the bytes of frames that each side may hold, together at most the book's length
+ * less HB_BOOK_MIN. caller is the side that calls. Each acts on its own settings alone, as on a book of its own with room for its quota: nothing
+ * that it is told depends on what the other does.
+ *
+ * A caller owes one thing more, which the library cannot see: table and quotas stay the same for the book's life. The calls of the whole book
+ * may go on beside; hb_book_ask and hb_book_replay show both sides, and what one of the others writes does show in what a side is told.
+ *
+ * 17 comes before a put decodes its frame: the table has not HB_SETTINGS entries, an owner or the caller is neither 1 nor 2, two forms of a
+ * setting have two owners, the quotas do not fit the book, or a side holds more than its quota. 18 comes whether the other side holds that kind
+ * or not. */
+
+/* from commands.json: slots */
+/* The slots of the kinds: 1 to 7 have 0 to 6, 11 to 21 have 7 to 17, 24 to 28 have 18 to 22, 31 has 23, 33 to 35 have 24 to 26, 38 and 39
+ * have 27 and 28. */
+/* end: slots */
+
+/* Puts a frame of the side's settings as hb_book_put does, but the room is the side's own: 8 where its frames after the put would exceed its
+ * quota. Refuses 11, 10, 16, 17, 1, 2, 3, 4, 5, 13, 18, 8. */
+hb_answer hb_side_put(uint8_t *book, size_t len, const uint8_t *owners, size_t owners_len, uint64_t quota1, uint64_t quota2, uint64_t caller,
+    const uint8_t *frame, size_t frame_len);
+
+/* Takes the frame of a kind of the side out, as hb_book_remove does. Refuses 11, 10, 16, 17, 13, 18, 9. */
+hb_answer hb_side_remove(uint8_t *book, size_t len, const uint8_t *owners, size_t owners_len, uint64_t quota1, uint64_t quota2, uint64_t caller,
+    uint64_t kind);
+
+/* Writes the frame of a kind of the side, as hb_book_ask does. Refuses 11, 10, 16, 17, 13, 18, 9, 12. */
+hb_answer hb_side_ask(const uint8_t *book, size_t len, const uint8_t *owners, size_t owners_len, uint64_t quota1, uint64_t quota2, uint64_t caller,
+    uint64_t kind, uint8_t *out, size_t out_len);
+
+/* Takes every frame of the side out; the other side's stay, in their order. Refuses 11, 10, 16, 17. */
+hb_answer hb_side_clear(uint8_t *book, size_t len, const uint8_t *owners, size_t owners_len, uint64_t quota1, uint64_t quota2, uint64_t caller);
+
+/* Writes the side's own frames to the front of out as a reel, in order of first entry, and keeps the rest of it. Refuses 11, 10, 16, 17, 12. */
+hb_answer hb_side_replay(const uint8_t *book, size_t len, const uint8_t *owners, size_t owners_len, uint64_t quota1, uint64_t quota2, uint64_t caller,
+    uint8_t *out, size_t out_len);
 
 /* ---- what the radio sends */
 

@@ -1,6 +1,6 @@
 // The book as a plain list of frames, and the bytes that the format gives it. Written from the rules alone, without the source.
 use crate::model::{commands, decode, Decoded};
-use crate::record::{Record, LENT};
+use crate::record::Record;
 
 #[derive(Clone, Copy, PartialEq)]
 pub struct Answer {
@@ -9,15 +9,15 @@ pub struct Answer {
     pub written: u16,
 }
 
-fn done(written: usize) -> Answer {
+pub fn done(written: usize) -> Answer {
     Answer { refusal: 0, place: 0, written: written as u16 }
 }
 
-fn refused(refusal: u8) -> Answer {
+pub fn refused(refusal: u8) -> Answer {
     Answer { refusal, place: 0, written: 0 }
 }
 
-#[derive(Clone)]
+#[derive(Clone, PartialEq)]
 pub struct Frame {
     pub kind: u64,
     pub bytes: Vec<u8>,
@@ -117,7 +117,7 @@ pub struct Book {
     pub output: Vec<u8>,
 }
 
-fn counting(from: u8, length: usize) -> Vec<u8> {
+pub fn counting(from: u8, length: usize) -> Vec<u8> {
     (0..length).map(|i| from.wrapping_add(i as u8)).collect()
 }
 
@@ -130,18 +130,14 @@ impl Book {
         self.content = judged(&self.bytes);
     }
 
-    fn holds(&mut self, frames: Vec<Frame>) -> Answer {
+    pub fn holds(&mut self, frames: Vec<Frame>) -> Answer {
         self.bytes = image(&frames, self.bytes.len());
         self.content = Ok(frames);
         done(0)
     }
 
     pub fn carry_out(&mut self, record: &Record) -> Answer {
-        let lent = match record {
-            Record::Ask { output, .. } | Record::Replay { output } => (*output).min(LENT),
-            _ => 0,
-        };
-        self.output = counting(165, lent);
+        self.output = counting(165, record.output());
         match record {
             Record::Lend { length, first } => {
                 self.bytes = counting(*first, *length);
@@ -170,10 +166,7 @@ impl Book {
         match record {
             Record::Put { frame } => self.put(frame, frames),
             Record::Clear => self.holds(vec![]),
-            Record::Replay { .. } => {
-                let reel: Vec<u8> = frames.iter().flat_map(|f| core::iter::once(f.bytes.len() as u8).chain(f.bytes.iter().copied())).collect();
-                self.write(&reel)
-            }
+            Record::Replay { .. } => self.write(&reel(&frames)),
             Record::Remove { kind } => match held(*kind, &frames) {
                 Err(refusal) => refused(refusal),
                 Ok(i) => {
@@ -189,30 +182,20 @@ impl Book {
         }
     }
 
-    // "put decodes before all else"; 13 for an action; a setting that is held, in this form or the other, keeps its place.
     fn put(&mut self, bytes: &[u8], mut frames: Vec<Frame>) -> Answer {
-        let kind = match decode(bytes) {
-            Decoded::Refused(refusal, place) => return Answer { refusal, place, written: 0 },
-            Decoded::Kind(kind, _) => kind,
-        };
-        if slot(kind).is_none() {
-            return refused(13);
-        }
-        let frame = Frame { kind, bytes: bytes.to_vec() };
-        let other = other_form(kind);
-        match frames.iter_mut().find(|f| f.kind == kind || Some(f.kind) == other) {
-            Some(place) => *place = frame,
-            None => frames.push(frame),
+        match setting(bytes) {
+            Err(answer) => return answer,
+            Ok(frame) => place(frame, &mut frames),
         }
         // "frames plus 62 would exceed the buffer": those of the list as it is after the put
-        if 62 + frames.iter().map(|f| f.bytes.len()).sum::<usize>() > self.bytes.len() {
+        if 62 + weight(&frames) > self.bytes.len() {
             return refused(8);
         }
         self.holds(frames)
     }
 
     // "report the bytes written and keep the rest of the output"
-    fn write(&mut self, bytes: &[u8]) -> Answer {
+    pub fn write(&mut self, bytes: &[u8]) -> Answer {
         if bytes.len() > self.output.len() {
             return refused(12);
         }
@@ -221,8 +204,36 @@ impl Book {
     }
 }
 
+// "put decodes before all else"; 13 for an action.
+pub fn setting(bytes: &[u8]) -> Result<Frame, Answer> {
+    match decode(bytes) {
+        Decoded::Refused(refusal, place) => Err(Answer { refusal, place, written: 0 }),
+        Decoded::Kind(kind, _) if slot(kind).is_none() => Err(refused(13)),
+        Decoded::Kind(kind, _) => Ok(Frame { kind, bytes: bytes.to_vec() }),
+    }
+}
+
+// A setting that is held, in this form or the other, keeps its place.
+pub fn place(frame: Frame, frames: &mut Vec<Frame>) {
+    let other = other_form(frame.kind);
+    match frames.iter_mut().find(|f| f.kind == frame.kind || Some(f.kind) == other) {
+        Some(place) => *place = frame,
+        None => frames.push(frame),
+    }
+}
+
+// How many bytes the frames have.
+pub fn weight(frames: &[Frame]) -> usize {
+    frames.iter().map(|f| f.bytes.len()).sum()
+}
+
+// Each frame behind a byte with its length.
+pub fn reel(frames: &[Frame]) -> Vec<u8> {
+    frames.iter().flat_map(|f| core::iter::once(f.bytes.len() as u8).chain(f.bytes.iter().copied())).collect()
+}
+
 // Where a kind's frame stands in the list; 13 for a kind that is no setting, 9 for one that is not held.
-fn held(kind: u64, frames: &[Frame]) -> Result<usize, u8> {
+pub fn held(kind: u64, frames: &[Frame]) -> Result<usize, u8> {
     slot(kind).ok_or(13)?;
     frames.iter().position(|f| f.kind == kind).ok_or(9)
 }

@@ -28,11 +28,11 @@ pub struct Edge {
 // All frames of a book whose settings are in their longer forms take so many bytes.
 const ALL: usize = 169;
 
-// Kinds of other settings than this one, at most one form of each, whose frames take so many bytes together, if there are such.
-fn filling(random: &mut Random, bytes: usize, but: u64) -> Option<Vec<u64>> {
+// Kinds of such settings, named by their shorter forms, at most one form of each, whose frames take so many bytes together, if there are any.
+pub fn filling(random: &mut Random, bytes: usize, is_such: impl Fn(u64) -> bool) -> Option<Vec<u64>> {
     let forms = |kind: u64| [Some(kind), other_form(kind)].into_iter().flatten().map(|k| (k, length(k))).collect::<Vec<_>>();
     let is_longer = |kind: u64| FORMS.iter().any(|(_, long)| kind == *long);
-    let mut settings: Vec<_> = SETTINGS.iter().filter(|k| **k != but && !is_longer(**k)).map(|k| forms(*k)).collect();
+    let mut settings: Vec<_> = SETTINGS.iter().filter(|k| is_such(**k) && !is_longer(**k)).map(|k| forms(*k)).collect();
     random.shuffle(&mut settings);
     // Whether the settings from i on can take so many bytes.
     let mut reach = vec![vec![false; bytes + 1]; settings.len() + 1];
@@ -60,7 +60,7 @@ fn edge(random: &mut Random, size: usize, forms: (u64, u64), place: Place, lacks
     let (short, long) = forms;
     let bytes = (size + lacks).checked_sub(62 + length(long))?.min(ALL - length(long));
     // Few kinds may be one where the place wants two.
-    let mut tries = (0..40).map_while(|_| filling(random, bytes, short));
+    let mut tries = (0..40).map_while(|_| filling(random, bytes, |kind| kind != short));
     let mut kinds = tries.find(|kinds| match place {
         Place::Alone => kinds.is_empty(),
         Place::First | Place::Last => !kinds.is_empty(),

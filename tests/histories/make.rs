@@ -1,16 +1,17 @@
 // Random histories. They are the same on every run and machine: the random numbers have a fixed seed.
-use crate::book::{image, length, other_form, Book, Frame, ACTIONS, FORMS, SETTINGS};
+use crate::book::{done, image, length, other_form, Answer, Frame, ACTIONS, FORMS, SETTINGS};
 use crate::file::Records;
 use crate::fixed;
 use crate::frames::{damaged, good, Random};
 use crate::model::commands;
 use crate::record::Record;
+use crate::sides::Shared;
 use std::io::{Result, Write};
 
 // ---- damage to a book
 
 // Bytes to replace in a sound book: where, and by what.
-fn damage(random: &mut Random, bytes: &[u8], frames: &[Frame]) -> (usize, Vec<u8>) {
+pub fn damage(random: &mut Random, bytes: &[u8], frames: &[Frame]) -> (usize, Vec<u8>) {
     let offset_of = |frame: &Frame| 4 + 2 * crate::book::slot(frame.kind).expect("a setting");
     let at = |place: usize| bytes[place..place + 2].to_vec();
     let end = u16::from_be_bytes([bytes[2], bytes[3]]);
@@ -70,16 +71,22 @@ pub enum Size {
 pub struct History<'a, W: Write> {
     pub random: &'a mut Random,
     to: &'a mut Records<W>,
-    pub book: Book,
+    pub book: Shared,
+    // What the latest record was answered by.
+    pub answer: Answer,
     // The kinds that puts choose from: few, so that they meet again, or all.
     kinds: Vec<u64>,
     // So many of a hundred calls on a sound book come with damage to it.
     often: usize,
 }
 
-impl<W: Write> History<'_, W> {
+impl<'a, W: Write> History<'a, W> {
+    pub fn new(random: &'a mut Random, to: &'a mut Records<W>, kinds: Vec<u64>, often: usize) -> Self {
+        History { random, to, book: Shared::new(), answer: done(0), kinds, often }
+    }
+
     pub fn record(&mut self, record: Record) -> Result<()> {
-        self.book.carry_out(&record);
+        self.answer = self.book.carry_out(&record);
         self.to.write(&record)
     }
 
@@ -101,7 +108,7 @@ impl<W: Write> History<'_, W> {
     }
 
     // A book that was never put together by calls, in any order, as far as there is room: with one form of each setting, or with both of some.
-    fn hand_in(&mut self, both: bool) -> Result<()> {
+    pub fn hand_in(&mut self, both: bool) -> Result<()> {
         let size = self.book.bytes.len();
         let mut kinds = SETTINGS.to_vec();
         self.random.shuffle(&mut kinds);
@@ -135,9 +142,9 @@ impl<W: Write> History<'_, W> {
         Ok(())
     }
 
-    // The other form stored beside one that is held, with a fault more or none, some calls on that book, and then the old bytes or neither.
-    fn double(&mut self) -> Result<()> {
-        let before = self.book.bytes.clone();
+    // The other form stored beside one that is held, with a fault more or none; without room for it the book is cut short, which is a fault too.
+    pub fn store_both(&mut self) -> Result<()> {
+        let size = self.book.bytes.len();
         let mut frames = self.frames().to_vec();
         let (short, long) = self.random.one_of(&FORMS);
         for kind in [short, long] {
@@ -146,15 +153,19 @@ impl<W: Write> History<'_, W> {
                 frames.insert(self.random.below(frames.len() + 1), frame);
             }
         }
-        let bytes = image(&frames, before.len());
-        if bytes.len() > before.len() {
-            return self.call();
-        }
+        let bytes = image(&frames, size);
         self.poke(0, &bytes)?;
         if self.random.percent(40) {
             let (at, data) = damage(self.random, &bytes, &frames);
             self.poke(at, &data[..data.len().min(bytes.len() - at)])?;
         }
+        Ok(())
+    }
+
+    // Both forms of a setting, some calls on that book, and then the old bytes or neither.
+    fn double(&mut self) -> Result<()> {
+        let before = self.book.bytes.clone();
+        self.store_both()?;
         for _ in 0..self.random.within(1, 3) {
             self.call()?;
         }
@@ -197,7 +208,7 @@ impl<W: Write> History<'_, W> {
     }
 
     // An output for an answer of so many bytes: too short by one, exact, longer, or any.
-    fn output(&mut self, need: usize) -> usize {
+    pub fn output(&mut self, need: usize) -> usize {
         match self.random.below(6) {
             0 => need.saturating_sub(1),
             1 | 2 => need,
@@ -236,7 +247,7 @@ impl<W: Write> History<'_, W> {
         self.record(Record::Put { frame })
     }
 
-    fn call(&mut self) -> Result<()> {
+    pub fn call(&mut self) -> Result<()> {
         match self.random.below(100) {
             0..=51 => self.put(),
             52..=67 => {
@@ -259,7 +270,7 @@ impl<W: Write> History<'_, W> {
         }
     }
 
-    fn sound(&self) -> bool {
+    pub fn sound(&self) -> bool {
         self.book.content.is_ok()
     }
 
@@ -315,18 +326,16 @@ fn extent(random: &mut Random, size: Size) -> (usize, usize) {
     }
 }
 
-pub fn histories<W: Write>(count: usize, seed: u64, size: Size, to: W) -> Result<()> {
+pub fn histories<W: Write>(count: usize, seed: u64, size: Size, to: &mut Records<W>) -> Result<()> {
     let mut random = Random(seed);
-    let mut to = Records::new(to);
     let first: Vec<fixed::Course> = fixed::courses(&mut random, size).into_iter().take(count).collect();
     for course in &first {
-        let mut history = History { random: &mut random, to: &mut to, book: Book::new(), kinds: vec![], often: 0 };
-        course.run(&mut history)?;
+        course.run(&mut History::new(&mut random, to, vec![], 0))?;
     }
     for _ in first.len()..count {
-        any(&mut random, size, &mut to)?;
+        any(&mut random, size, to)?;
     }
-    to.flush()
+    Ok(())
 }
 
 fn any<W: Write>(random: &mut Random, size: Size, to: &mut Records<W>) -> Result<()> {
@@ -339,7 +348,7 @@ fn any<W: Write>(random: &mut Random, size: Size, to: &mut Records<W>) -> Result
     let first = random.byte();
     let calls = random.within(1, most);
     let often = random.one_of(if size == Size::Sample { &[0, 15] } else { &[0, 0, 3, 12] });
-    let mut history = History { random, to, book: Book::new(), kinds, often };
+    let mut history = History::new(random, to, kinds, often);
     history.record(Record::Lend { length, first })?;
     history.run(calls)
 }

@@ -3,6 +3,24 @@ pub const HEAD: usize = 12;
 // The longest output that is lent.
 pub const LENT: usize = 512;
 
+// What comes with a side's call: the owner of each slot, and how many bytes of frames each side may hold.
+#[derive(Clone, PartialEq)]
+pub struct Table {
+    pub owners: Vec<u8>,
+    pub quotas: [u64; 2],
+}
+
+// What a side calls for.
+#[derive(Clone)]
+pub enum Call {
+    Put { frame: Vec<u8> },
+    Remove { kind: u64 },
+    Ask { kind: u64, output: usize },
+    Clear,
+    Replay { output: usize },
+}
+
+#[derive(Clone)]
 pub enum Record {
     Lend { length: usize, first: u8 },
     Poke { at: usize, data: Vec<u8> },
@@ -12,21 +30,45 @@ pub enum Record {
     Ask { kind: u64, output: usize },
     Clear,
     Replay { output: usize },
+    Side { caller: u64, table: Table, call: Call },
 }
 
 use Record::*;
 
+fn number(bytes: &[u8]) -> u64 {
+    bytes.iter().fold(0, |n, b| n << 8 | *b as u64)
+}
+
+// The data of a side's call: both quotas, the number of owners, the owners, and what the call is for.
+fn data(table: &Table, what: &[u8]) -> Vec<u8> {
+    let [one, two] = table.quotas.map(u64::to_be_bytes);
+    [&one[..], &two, &[table.owners.len() as u8], &table.owners, what].concat()
+}
+
+// The table, and what the call is for.
+fn parted(data: &[u8]) -> (Table, &[u8]) {
+    let end = 17 + data[16] as usize;
+    (Table { owners: data[17..end].to_vec(), quotas: [number(&data[..8]), number(&data[8..16])] }, &data[end..])
+}
+
 impl Record {
     pub fn bytes(&self) -> Vec<u8> {
-        let (operation, size, kind, data): (u8, usize, u64, &[u8]) = match self {
-            Lend { length, first } => (1, *length, *first as u64, &[]),
-            Poke { at, data } => (2, *at, 0, data),
-            Make => (3, 0, 0, &[]),
-            Put { frame } => (4, 0, 0, frame),
-            Remove { kind } => (5, 0, *kind, &[]),
-            Ask { kind, output } => (6, *output, *kind, &[]),
-            Clear => (7, 0, 0, &[]),
-            Replay { output } => (8, *output, 0, &[]),
+        let (operation, size, kind, data): (u8, usize, u64, Vec<u8>) = match self {
+            Lend { length, first } => (1, *length, *first as u64, vec![]),
+            Poke { at, data } => (2, *at, 0, data.clone()),
+            Make => (3, 0, 0, vec![]),
+            Put { frame } => (4, 0, 0, frame.clone()),
+            Remove { kind } => (5, 0, *kind, vec![]),
+            Ask { kind, output } => (6, *output, *kind, vec![]),
+            Clear => (7, 0, 0, vec![]),
+            Replay { output } => (8, *output, 0, vec![]),
+            Side { caller, table, call } => match call {
+                Call::Put { frame } => (9, 0, *caller, data(table, frame)),
+                Call::Remove { kind } => (10, 0, *caller, data(table, &kind.to_be_bytes())),
+                Call::Ask { kind, output } => (11, *output, *caller, data(table, &kind.to_be_bytes())),
+                Call::Clear => (12, 0, *caller, data(table, &[])),
+                Call::Replay { output } => (13, *output, *caller, data(table, &[])),
+            },
         };
         let mut bytes = vec![operation, data.len() as u8];
         bytes.extend((size as u16).to_be_bytes());
@@ -37,7 +79,7 @@ impl Record {
 
     pub fn of(bytes: &[u8]) -> Record {
         let size = u16::from_be_bytes([bytes[2], bytes[3]]) as usize;
-        let kind = bytes[4..HEAD].iter().fold(0, |n, b| n << 8 | *b as u64);
+        let kind = number(&bytes[4..HEAD]);
         let data = bytes[HEAD..].to_vec();
         match bytes[0] {
             1 => Lend { length: size, first: kind as u8 },
@@ -48,7 +90,27 @@ impl Record {
             6 => Ask { kind, output: size },
             7 => Clear,
             8 => Replay { output: size },
+            9..=13 => {
+                let (table, what) = parted(&data);
+                let call = match bytes[0] {
+                    9 => Call::Put { frame: what.to_vec() },
+                    10 => Call::Remove { kind: number(what) },
+                    11 => Call::Ask { kind: number(what), output: size },
+                    12 => Call::Clear,
+                    _ => Call::Replay { output: size },
+                };
+                Side { caller: kind, table, call }
+            }
             operation => panic!("{} is no operation", operation),
+        }
+    }
+
+    // How many bytes of output the call gets.
+    pub fn output(&self) -> usize {
+        match self {
+            Ask { output, .. } | Replay { output } => (*output).min(LENT),
+            Side { call: Call::Ask { output, .. } | Call::Replay { output }, .. } => (*output).min(LENT),
+            _ => 0,
         }
     }
 
@@ -62,6 +124,16 @@ impl Record {
             Ask { kind, output } => format!("ask for kind {} with an output of {}", kind, output),
             Clear => "clear".into(),
             Replay { output } => format!("replay with an output of {}", output),
+            Side { caller, table, call } => {
+                let call = match call {
+                    Call::Put { frame } => format!("puts [{}]", hex(frame)),
+                    Call::Remove { kind } => format!("removes kind {}", kind),
+                    Call::Ask { kind, output } => format!("asks for kind {} with an output of {}", kind, output),
+                    Call::Clear => "clears".into(),
+                    Call::Replay { output } => format!("replays with an output of {}", output),
+                };
+                format!("side {} {}; {} owners [{}], quotas {:?}", caller, call, table.owners.len(), hex(&table.owners), table.quotas)
+            }
         }
     }
 }

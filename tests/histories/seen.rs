@@ -1,5 +1,6 @@
 // What the histories came to: every answer of every call, every swap of forms at the edge of the room, and every way to miss a form has to be met.
-use crate::book::{length, other_form, Answer, Book, Frame, FORMS, SETTINGS};
+use crate::book::{length, other_form, weight, Answer, Book, Frame, FORMS, SETTINGS};
+use crate::compare::{Step, Watch};
 use crate::model::{commands, decode, Decoded};
 use crate::record::Record;
 use std::collections::{BTreeMap, BTreeSet};
@@ -26,6 +27,18 @@ pub enum Place {
     Last,
 }
 
+impl Place {
+    // Of the frame at an index, among so many.
+    pub fn of(at: usize, count: usize) -> Place {
+        match (at, count - 1 - at) {
+            (0, 0) => Place::Alone,
+            (0, _) => Place::First,
+            (_, 0) => Place::Last,
+            _ => Place::Middle,
+        }
+    }
+}
+
 pub const PLACES: [Place; 4] = [Place::Alone, Place::First, Place::Middle, Place::Last];
 
 // The lengths of a sync word that have to be met, each put and each in a stored book: the least, those about the limit, and the greatest that there is.
@@ -50,7 +63,7 @@ struct Swap {
 
 #[derive(Default)]
 pub struct Seen {
-    pub histories: u64,
+    histories: u64,
     calls: [[u64; 17]; CALLS.len()],
     // Puts that brought back a kind that had been taken out, that made a book of all settings, and that made the longest.
     returned: u64,
@@ -80,10 +93,10 @@ pub struct Seen {
     is_spoilt: bool,
 }
 
-// Which of the calls a record is; none for one that only sets the buffer up.
+// Which of the calls a record is; none for one that only sets the buffer up, and for a side's call.
 fn call(record: &Record) -> Option<usize> {
     Some(match record {
-        Record::Lend { .. } | Record::Poke { .. } => return None,
+        Record::Lend { .. } | Record::Poke { .. } | Record::Side { .. } => return None,
         Record::Make => 0,
         Record::Put { .. } => 1,
         Record::Remove { .. } => 2,
@@ -105,7 +118,7 @@ fn stored(bytes: &[u8]) -> Option<u8> {
 }
 
 fn taken(frames: &[Frame]) -> usize {
-    62 + frames.iter().map(|f| f.bytes.len()).sum::<usize>()
+    62 + weight(frames)
 }
 
 // The kind of a frame that is one of two forms. Most frames are told by opcode and length to be none, which is quicker than to decode them.
@@ -122,12 +135,7 @@ fn form_of(frame: &[u8]) -> Option<u64> {
 fn swap(kind: u64, frames: &[Frame], size: usize) -> Option<Swap> {
     let other = other_form(kind)?;
     let at = frames.iter().position(|f| f.kind == other)?;
-    let place = match (at, frames.len() - 1 - at) {
-        (0, 0) => Place::Alone,
-        (0, _) => Place::First,
-        (_, 0) => Place::Last,
-        _ => Place::Middle,
-    };
+    let place = Place::of(at, frames.len());
     let room = match taken(frames) - length(other) + length(kind).max(length(other)) {
         bytes if bytes < size => Room::Spare,
         bytes if bytes == size => Room::Exact,
@@ -137,9 +145,53 @@ fn swap(kind: u64, frames: &[Frame], size: usize) -> Option<Swap> {
     Some(Swap { kind, place, room })
 }
 
+impl Watch for Seen {
+    fn add(&mut self, step: &Step) -> Option<String> {
+        self.met(step.record, step.before, step.answer, step.book);
+        None
+    }
+
+    fn words(&self) -> String {
+        let total = |refusal: usize| self.calls.iter().map(|call| call[refusal]).sum::<u64>();
+        let refusals: Vec<String> = (1..17).filter(|r| total(*r) > 0).map(|r| format!("{}: {}", r, total(r))).collect();
+        let calls = (0..17).map(total).sum::<u64>();
+        let puts = self.calls[1].iter().sum::<u64>();
+        let longer = |swap: &Swap| FORMS.iter().any(|(_, long)| swap.kind == *long);
+        let fits = |swap: &Swap| swap.room <= Room::Exact;
+        let lines = [
+            format!("{} histories, {} calls, {} done; refusals {}", self.histories, calls, total(0), refusals.join(", ")),
+            format!(
+                "{} puts that brought a kind back, {} that made a book of all 26 settings, {} that made one of {} bytes; one byte less refused {}",
+                self.returned, self.full, self.longest, FULL, self.byte_less
+            ),
+            format!(
+                "{} of {} puts of a paired kind; swaps: {} to the longer form, {} to the shorter, {} refused for room; {} edges of the room met",
+                self.paired,
+                puts,
+                self.swaps(|s| longer(s) && fits(s)),
+                self.swaps(|s| !longer(s)),
+                self.swaps(|s| longer(s) && !fits(s)),
+                self.edges.len()
+            ),
+            format!(
+                "{} asks and removals of the form that is not held; of books with both forms, {} calls refused by 16 and {} by 10 for another fault",
+                self.missed.values().sum::<u64>(),
+                total(16),
+                self.spoilt.iter().sum::<u64>()
+            ),
+        ];
+        lines.join("\n")
+    }
+
+    fn missing(&self) -> Vec<String> {
+        let all = [self.owed_of_calls(), self.owed_of_forms(), self.owed_of_full_books(), self.owed_of_sync_words()].concat();
+        all.into_iter().filter(|(met, _)| !met).map(|(_, what)| what).collect()
+    }
+}
+
 impl Seen {
     // What a record did: the content before it, its answer, and the book after it.
-    pub fn add(&mut self, record: &Record, before: &Result<Vec<Frame>, u8>, answer: Answer, book: &Book) {
+    fn met(&mut self, record: &Record, before: &Result<Vec<Frame>, u8>, answer: Answer, book: &Book) {
         match record {
             Record::Lend { .. } => {
                 self.histories += 1;
@@ -206,45 +258,6 @@ impl Seen {
 
     fn swaps(&self, which: impl Fn(&Swap) -> bool) -> u64 {
         self.swaps.iter().filter(|(swap, _)| which(swap)).map(|(_, n)| n).sum()
-    }
-
-    // How many there were of each.
-    pub fn words(&self) -> String {
-        let total = |refusal: usize| self.calls.iter().map(|call| call[refusal]).sum::<u64>();
-        let refusals: Vec<String> = (1..17).filter(|r| total(*r) > 0).map(|r| format!("{}: {}", r, total(r))).collect();
-        let calls = (0..17).map(total).sum::<u64>();
-        let puts = self.calls[1].iter().sum::<u64>();
-        let longer = |swap: &Swap| FORMS.iter().any(|(_, long)| swap.kind == *long);
-        let fits = |swap: &Swap| swap.room <= Room::Exact;
-        let lines = [
-            format!("{} histories, {} calls, {} done; refusals {}", self.histories, calls, total(0), refusals.join(", ")),
-            format!(
-                "{} puts that brought a kind back, {} that made a book of all 26 settings, {} that made one of {} bytes; one byte less refused {}",
-                self.returned, self.full, self.longest, FULL, self.byte_less
-            ),
-            format!(
-                "{} of {} puts of a paired kind; swaps: {} to the longer form, {} to the shorter, {} refused for room; {} edges of the room met",
-                self.paired,
-                puts,
-                self.swaps(|s| longer(s) && fits(s)),
-                self.swaps(|s| !longer(s)),
-                self.swaps(|s| longer(s) && !fits(s)),
-                self.edges.len()
-            ),
-            format!(
-                "{} asks and removals of the form that is not held; of books with both forms, {} calls refused by 16 and {} by 10 for another fault",
-                self.missed.values().sum::<u64>(),
-                total(16),
-                self.spoilt.iter().sum::<u64>()
-            ),
-        ];
-        lines.join("\n")
-    }
-
-    // What was never met.
-    pub fn missing(&self) -> Vec<String> {
-        let all = [self.owed_of_calls(), self.owed_of_forms(), self.owed_of_full_books(), self.owed_of_sync_words()].concat();
-        all.into_iter().filter(|(met, _)| !met).map(|(_, what)| what).collect()
     }
 
     fn owed_of_calls(&self) -> Vec<(bool, String)> {

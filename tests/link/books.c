@@ -15,16 +15,14 @@ static uint8_t book[4097], reel[HB_REPLAY_MAX];
 enum { PAIRS = 3 };
 static const uint8_t forms[PAIRS][2] = {{5, 6}, {25, 26}, {27, 28}};
 
-/* The form of its setting that a kind is not; 0 where there is one form. */
-static uint64_t other_form(uint64_t kind) {
+uint64_t other_form(uint64_t kind) {
     for (size_t i = 0; i < PAIRS; i++)
         for (size_t j = 0; j < 2; j++)
             if (forms[i][j] == kind) return forms[i][1 - j];
     return 0;
 }
 
-/* A setting's slot; -1 for an action and for what is no kind. */
-static int slot(uint64_t kind) {
+int slot(uint64_t kind) {
     static const uint8_t actions[] = {8, 9, 10, 22, 23, 29, 30, 32, 36, 37};
     int below = 0;
     for (size_t i = 0; i < sizeof actions; i++) {

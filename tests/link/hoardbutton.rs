@@ -55,6 +55,20 @@ functions! {
     book_clear(b: &mut [u8]) -> Answer = hb_book_clear(*mut u8 = b.as_mut_ptr(), usize = b.len());
     book_replay(b: &[u8], out: &mut [u8]) -> Answer
         = hb_book_replay(*const u8 = b.as_ptr(), usize = b.len(), *mut u8 = out.as_mut_ptr(), usize = out.len());
+    side_put(b: &mut [u8], t: &[u8], quotas: [u64; 2], caller: u64, f: &[u8]) -> Answer
+        = hb_side_put(*mut u8 = b.as_mut_ptr(), usize = b.len(), *const u8 = t.as_ptr(), usize = t.len(), u64 = quotas[0], u64 = quotas[1], u64 = caller,
+            *const u8 = f.as_ptr(), usize = f.len());
+    side_remove(b: &mut [u8], t: &[u8], quotas: [u64; 2], caller: u64, k: u64) -> Answer
+        = hb_side_remove(*mut u8 = b.as_mut_ptr(), usize = b.len(), *const u8 = t.as_ptr(), usize = t.len(), u64 = quotas[0], u64 = quotas[1], u64 = caller,
+            u64 = k);
+    side_ask(b: &[u8], t: &[u8], quotas: [u64; 2], caller: u64, k: u64, out: &mut [u8]) -> Answer
+        = hb_side_ask(*const u8 = b.as_ptr(), usize = b.len(), *const u8 = t.as_ptr(), usize = t.len(), u64 = quotas[0], u64 = quotas[1], u64 = caller,
+            u64 = k, *mut u8 = out.as_mut_ptr(), usize = out.len());
+    side_clear(b: &mut [u8], t: &[u8], quotas: [u64; 2], caller: u64) -> Answer
+        = hb_side_clear(*mut u8 = b.as_mut_ptr(), usize = b.len(), *const u8 = t.as_ptr(), usize = t.len(), u64 = quotas[0], u64 = quotas[1], u64 = caller);
+    side_replay(b: &[u8], t: &[u8], quotas: [u64; 2], caller: u64, out: &mut [u8]) -> Answer
+        = hb_side_replay(*const u8 = b.as_ptr(), usize = b.len(), *const u8 = t.as_ptr(), usize = t.len(), u64 = quotas[0], u64 = quotas[1], u64 = caller,
+            *mut u8 = out.as_mut_ptr(), usize = out.len());
     status(b: &[u8]) -> Status = hb_status(*const u8 = b.as_ptr(), usize = b.len());
     intr(b: &[u8]) -> u32 = hb_intr(*const u8 = b.as_ptr(), usize = b.len());
     lora_rx_stats(b: &[u8]) -> LoraRxStats = hb_lora_rx_stats(*const u8 = b.as_ptr(), usize = b.len());

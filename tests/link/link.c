@@ -117,7 +117,8 @@ int main(void) {
     signal(SIGNAL_BUS, crashed);
     memory = mmap(0, (2 * SLOTS + 1) * PAGE, CLOSED, PRIVATE_ANONYMOUS, -1, 0);
     for (unsigned i = 0; i < SLOTS; i++) mprotect(memory + (2 * i + 1) * PAGE, PAGE, READ | WRITE);
-    void (*const tests[])(void) = {test_frames, test_books, test_radio, test_readings, test_reels, test_rust, test_plain, test_plays, test_names};
+    void (*const tests[])(void) = {test_frames, test_books, test_sides, test_radio, test_readings, test_reels, test_rust, test_plain, test_plays,
+        test_names};
     for (mode = 0; mode < 3; mode++)
         for (size_t i = 0; i < sizeof tests / sizeof *tests; i++) tests[i]();
     printf("%llu\n", (unsigned long long)checks);

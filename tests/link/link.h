@@ -35,11 +35,15 @@ typedef struct {
 } row;
 extern const row rows[KINDS];
 
+/* A setting's slot; -1 for an action and for what is no kind. The form of its setting that a kind is not; 0 where there is one form. */
+int slot(uint64_t kind);
+uint64_t other_form(uint64_t kind);
+
 /* A builder of frames, hb_checked or hb_plain: what it makes of the numbers of a text; of each row; and of a row with too few or too many. */
 typedef hb_frame builder(uint64_t kind, const uint64_t *args, size_t n);
 void builds(builder *build, uint64_t kind, const char *args, const char *frame, uint32_t refusal, uint32_t place);
 void builds_rows(builder *build);
 
-void test_frames(void), test_books(void), test_radio(void), test_readings(void), test_reels(void), test_rust(void);
+void test_frames(void), test_books(void), test_sides(void), test_radio(void), test_readings(void), test_reels(void), test_rust(void);
 /* The tests of hb_plain and hb_play: those of C call those of Rust. The tests of the header's names. */
 void test_plain(void), test_rust_plain(void), test_plays(void), test_rust_plays(void), test_names(void);

@@ -168,8 +168,12 @@ static void refusals(void) {
     same("number over its limit", hb_decode((const uint8_t *)"\x02\x44\0\0\0\0\0\0\0\0\x41", 11).refusal, HB_REFUSED_UNKNOWN_CODE);
     same("response's length", hb_rssi_inst((const uint8_t *)"\0\0\0", 3).refusal, HB_REFUSED_RESPONSE_LENGTH);
     same("cut reel", hb_reel_step((const uint8_t *)"\x02\x28", 2, 0).refusal, HB_REFUSED_REEL_CUT);
-    uint8_t book[HB_BOOK_MIN];
+    uint8_t book[HB_BOOK_MIN], owners[HB_SETTINGS];
     same("faulty trace", hb_play(NULL, 0, book, sizeof book).refusal, HB_REFUSED_TRACE_FAULT);
+    hb_book_make(book, sizeof book);
+    memset(owners, 1, sizeof owners);
+    same("no owner table", hb_side_clear(book, sizeof book, NULL, 0, 0, 0, 1).refusal, HB_REFUSED_OWNERS_WRONG);
+    same("other side", hb_side_remove(book, sizeof book, owners, sizeof owners, 0, 0, 2, HB_SET_RF_FREQUENCY).refusal, HB_REFUSED_OTHER_SIDE);
 }
 
 static hb_status_t word(unsigned high, unsigned low) {

@@ -270,6 +270,28 @@ fn forms() {
     given_back();
 }
 
+// The frequency and the FSK settings have two owners: each side fills its quota, and neither sees the other's frame.
+fn sides() {
+    let (book, out, reel, quotas) = (output(72), output(4), output(12), [6, 4]);
+    let mut owners = [1; 29];
+    owners[12..18].fill(2);
+    let (owners, frequency, addresses) = (input(&owners), input(&[2, 0, 0x33, 0xBE, 0x27, 0xA0]), input(&[2, 0x45, 17, 255]));
+    same("hb_side_clear of no book", hb::side_clear(book, owners, quotas, 1), refused(10));
+    same("hb_book_make", hb::book_make(book), done(0));
+    same("hb_side_put", (hb::side_put(book, owners, quotas, 1, frequency), hb::side_put(book, owners, quotas, 1, &[2])), (done(0), refused(1)));
+    same("hb_side_put, the other's", hb::side_put(book, owners, quotas, 1, addresses), refused(18));
+    same("hb_side_put", hb::side_put(book, owners, quotas, 2, addresses), done(0));
+    same("hb_side_put, over the quota", hb::side_put(book, owners, quotas, 1, &[2, 1, 0]), refused(8));
+    same("hb_side_ask", (hb::side_ask(book, owners, quotas, 2, 21, out), &*out), (done(4), addresses));
+    same("hb_side_ask", (hb::side_ask(book, owners, quotas, 2, 24, out), hb::side_ask(book, owners, quotas, 2, 20, out)), (refused(18), refused(9)));
+    same("hb_side_replay", (hb::side_replay(book, owners, quotas, 2, reel), &reel[..5]), (done(5), &[4, 2, 0x45, 17, 255][..]));
+    same("hb_side_replay", hb::side_replay(book, owners, quotas, 1, &mut reel[..6]), refused(12));
+    same("a wrong table", (hb::side_clear(book, &owners[1..], quotas, 1), hb::side_clear(book, owners, [6, u64::MAX], 2)), (refused(17), refused(17)));
+    same("hb_side_remove", (hb::side_remove(book, owners, quotas, 1, 21), hb::side_remove(book, owners, quotas, 1, 24)), (refused(18), done(0)));
+    same("hb_side_clear", (hb::side_clear(book, owners, quotas, 2), hb::book_replay(book, reel)), (done(0), done(0)));
+    given_back();
+}
+
 // The bytes are 81, 82 and so on.
 fn responses() {
     let bytes: Vec<u8> = (0x81..0x91).collect();
@@ -307,6 +329,7 @@ pub extern "C" fn test_rust() {
     about("a call\0", 0);
     books();
     forms();
+    sides();
     responses();
     commands().iter().for_each(|c| each_argument(c, |kind, args| drop(checked(kind, args))));
     for _ in 0..250 {

@@ -33,7 +33,7 @@ lentTo (Replay o) = o
 -- ---- turns
 
 -- a turn that is refused keeps output and list
-abbrev Keeps : Turn → List ℕ → List (List ℕ) → Type 0
+abbrev pub Keeps : Turn → List ℕ → List (List ℕ) → Type 0
 Keeps t o fs = (x : Refusal) → t .answer ≡ Refused x → (t .output ≡ o) × (t .frames ≡ fs)
 
 become-keeps : (o o' : List ℕ) (fs gs : List (List ℕ)) → Keeps (become o fs) o' gs
@@ -57,7 +57,7 @@ held-keeps t o fs k true false = refuse-keeps NotHeld o fs
 held-keeps t o fs k false b = refuse-keeps NotAKind o fs
 
 module _ (o : List ℕ) (room : ℕ) (fs : List (List ℕ)) where
-  put-keeps : (f : List ℕ) → Keeps (putOn f o room fs) o fs
+  pub put-keeps : (f : List ℕ) → Keeps (putOn f o room fs) o fs
   unfolding putOn
   put-keeps f = go (ltb (slotOf f) settings) (leb (length (flat (placed f fs))) room)
     where
@@ -66,21 +66,21 @@ module _ (o : List ℕ) (room : ℕ) (fs : List (List ℕ)) where
       go true false = refuse-keeps NoRoom o fs
       go false b = refuse-keeps (lacks (decode f)) o fs
 
-  remove-keeps : (k : ℕ) → Keeps (removeOn k o room fs) o fs
+  pub remove-keeps : (k : ℕ) → Keeps (removeOn k o room fs) o fs
   unfolding removeOn
   remove-keeps k =
       held-keeps (become o (without (slotFor k) fs)) o fs (become-keeps o o (without (slotFor k) fs) fs) (ltb (slotFor k) settings) (held (slotFor k) fs)
 
-  ask-keeps : (k : ℕ) → Keeps (askOn k o room fs) o fs
+  pub ask-keeps : (k : ℕ) → Keeps (askOn k o room fs) o fs
   unfolding askOn
   ask-keeps k =
       held-keeps (tell (frameOf (slotFor k) fs) o fs) o fs (tell-keeps (frameOf (slotFor k) fs) o fs) (ltb (slotFor k) settings) (held (slotFor k) fs)
 
-  replay-keeps : Keeps (replayOn o room fs) o fs
+  pub replay-keeps : Keeps (replayOn o room fs) o fs
   unfolding replayOn
   replay-keeps = tell-keeps (reelOf fs) o fs
 
-  clear-keeps : Keeps (clearOn o room fs) o fs
+  pub clear-keeps : Keeps (clearOn o room fs) o fs
   unfolding clearOn
   clear-keeps = become-keeps o o [] fs
 

@@ -64,7 +64,7 @@ forms-without k fs S s p q = S s (was s (held s fs) refl p) (was (other s) (held
     was j true w q = w
     was j false w q = absurd (false≢true (sym (held-without k j fs w) ∙ q))
 
-without-le : (k : ℕ) (fs : List (List ℕ)) → length (flat (without k fs)) ≤ length (flat fs)
+pub without-le : (k : ℕ) (fs : List (List ℕ)) → length (flat (without k fs)) ≤ length (flat fs)
 unfolding flat without
 without-le k [] = le-refl 0
 without-le k (f ∷ fs) = go (without-le k fs) (eqb (slotOf f) k)

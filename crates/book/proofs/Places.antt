@@ -72,7 +72,7 @@ module _ (P : Refusal → Type 0) (S : Steps P) where
   held-says t o fs h true false = S .held
   held-says t o fs h false b = S .kind
 
-  put-says : (f o : List ℕ) (room : ℕ) (fs : List (List ℕ)) → Says P (putOn f o room fs .answer)
+  pub put-says : (f o : List ℕ) (room : ℕ) (fs : List (List ℕ)) → Says P (putOn f o room fs .answer)
   unfolding putOn
   put-says f o room fs = by (ltb (slotOf f) settings) (leb (length (flat (placed f fs))) room) (decode f) (S .frame f)
     where
@@ -83,27 +83,27 @@ module _ (P : Refusal → Type 0) (S : Steps P) where
       by false b (reading k vs) h = S .kind
       by false b (refuses x) h = h x refl
 
-  remove-says : (k : ℕ) (o : List ℕ) (room : ℕ) (fs : List (List ℕ)) → Says P (removeOn k o room fs .answer)
+  pub remove-says : (k : ℕ) (o : List ℕ) (room : ℕ) (fs : List (List ℕ)) → Says P (removeOn k o room fs .answer)
   unfolding removeOn
   remove-says k o room fs = held-says (become o (without (slotFor k) fs)) o fs tt (ltb (slotFor k) settings) (held (slotFor k) fs)
 
-  ask-says : (k : ℕ) (o : List ℕ) (room : ℕ) (fs : List (List ℕ)) → Says P (askOn k o room fs .answer)
+  pub ask-says : (k : ℕ) (o : List ℕ) (room : ℕ) (fs : List (List ℕ)) → Says P (askOn k o room fs .answer)
   unfolding askOn
   ask-says k o room fs =
       held-says (tell (frameOf (slotFor k) fs) o fs) o fs (tell-says (frameOf (slotFor k) fs) o fs) (ltb (slotFor k) settings) (held (slotFor k) fs)
 
-  clear-says : (o : List ℕ) (room : ℕ) (fs : List (List ℕ)) → Says P (clearOn o room fs .answer)
+  pub clear-says : (o : List ℕ) (room : ℕ) (fs : List (List ℕ)) → Says P (clearOn o room fs .answer)
   unfolding clearOn
   clear-says o room fs = tt
 
-  replay-says : (o : List ℕ) (room : ℕ) (fs : List (List ℕ)) → Says P (replayOn o room fs .answer)
+  pub replay-says : (o : List ℕ) (room : ℕ) (fs : List (List ℕ)) → Says P (replayOn o room fs .answer)
   unfolding replayOn
   replay-says o room fs = tell-says (reelOf fs) o fs
 
   -- ---- the calls, where it holds of the book's own refusals too
 
   module _ (l : Layout) (b : List ℕ) (own : (x : Refusal) → opened l b ≡ refused x → P x) (size : P BufferSize) where
-    call-says : (s : List ℕ → ℕ → List (List ℕ) → Turn) (o : List ℕ)
+    pub call-says : (s : List ℕ → ℕ → List (List ℕ) → Turn) (o : List ℕ)
         → ((o : List ℕ) (room : ℕ) (fs : List (List ℕ)) → Says P (s o room fs .answer)) → Says P (call l s o b .answer)
     unfolding call
     call-says s o h = by (opened l b) own
@@ -122,10 +122,10 @@ module _ (P : Refusal → Type 0) (S : Steps P) where
 
 -- ---- places
 
-abbrev Near : Refusal → Type 0
+abbrev pub Near : Refusal → Type 0
 Near x = placeOf x ≤ 12
 
-steps-near : Steps Near
+pub steps-near : Steps Near
 steps-near = record {
   room = omega arith;
   held = omega arith;
@@ -134,21 +134,26 @@ steps-near = record {
   frame = λ f x e. subst (λ (r : Reading). placeIn r ≤ 12) e (decode-place f);
 }
 
-opened-near : (l : Layout) (b : List ℕ) (x : Refusal) → opened l b ≡ refused x → placeOf x ≤ 12
+-- what holds of what `judge` refuses by, and of both forms, holds of every refusal of a whole book
+pub opened-says : (P : Refusal → Type 0) → P BothForms → (l : Layout) (b : List ℕ) → ((y : Refusal) → judge l b ≡ refused y → P y)
+    → (x : Refusal) → opened l b ≡ refused x → P x
 unfolding opened
-opened-near l b x e = subst near e (by (judge l b) refl)
+opened-says P both l b h x e = subst of e (by (judge l b) refl)
   where
-    near : Contents → Type 0
-    near (refused y) = placeOf y ≤ 12
-    near (holds fs) = Unit
+    of : Contents → Type 0
+    of (refused y) = P y
+    of (holds fs) = Unit
 
-    told : (t : Bool) (fs : List (List ℕ)) → near (cond t (holds fs) (refused BothForms))
+    told : (t : Bool) (fs : List (List ℕ)) → of (cond t (holds fs) (refused BothForms))
     told true fs = tt
-    told false fs = omega arith
+    told false fs = both
 
-    by : (c : Contents) → judge l b ≡ c → near (agreed c)
-    by (refused y) w = omega (arith, judge-place l b y w)
+    by : (c : Contents) → judge l b ≡ c → of (agreed c)
+    by (refused y) w = h y w
     by (holds fs) w = told (single fs) fs
+
+pub opened-near : (l : Layout) (b : List ℕ) (x : Refusal) → opened l b ≡ refused x → placeOf x ≤ 12
+opened-near l b = opened-says Near (omega arith) l b (λ y w. omega (arith, judge-place l b y w))
 
 pub after-place : (l : Layout) (b : List ℕ) (c : Call) (x : Refusal) → after l c b .answer ≡ Refused x → placeOf x ≤ 12
 after-place l b c x e = subst (Says Near) e (after-says Near steps-near l b (opened-near l b) (omega arith) c)

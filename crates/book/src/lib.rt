@@ -27,9 +27,9 @@ pub enum Answer {
 // The layout that is made and edited: its version, its slots, and where its frames start.
 const VERSION: u8 = 1;
 
-const SLOTS: usize = 29;
+pub const SLOTS: usize = 29;
 
-const START: usize = 4 + 2 * SLOTS;
+pub const START: usize = 4 + 2 * SLOTS;
 
 // The most bytes that a buffer has.
 const LONGEST: usize = 4096;

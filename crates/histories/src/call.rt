@@ -3,6 +3,7 @@ ghost use mathlib.Core.Path.{_≡_};
 ghost use Prim.Native.Nat.{_≤_};
 ghost use lib.ListN.{length};
 use crate::record;
+use crate::side;
 use book::Answer;
 
 fn low(n: u32) -> u8 {
@@ -43,6 +44,7 @@ pub(crate) fn carried(op: u8, r: &[u8], book: &mut [u8], lent: &mut [u8]) -> Ans
         record::ASK => book::ask(book, record::kind(r), lent),
         record::CLEAR => book::clear(book),
         record::REPLAY => book::replay(book, lent),
+        record::SIDE_PUT..=record::SIDE_REPLAY => side::carried(op, r, book, lent),
         _ => Answer::Done(0),
     }
 }

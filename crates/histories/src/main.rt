@@ -8,6 +8,7 @@ use libc::STDOUT_FILENO;
 
 mod call;
 mod record;
+mod side;
 
 // No record crosses a multiple of so many bytes of the input.
 const BLOCK: usize = 65536;

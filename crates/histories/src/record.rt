@@ -6,7 +6,7 @@ ghost use lib.ListN.{length};
 // The bytes before the data.
 pub const HEAD: usize = 12;
 
-// The operations: a buffer lent as the book, bytes of it replaced, and the book's calls.
+// The operations: a buffer lent as the book, bytes of it replaced, the book's calls, and those of a side that shares it.
 pub const LEND: u8 = 1;
 
 pub const POKE: u8 = 2;
@@ -23,11 +23,21 @@ pub const CLEAR: u8 = 7;
 
 pub const REPLAY: u8 = 8;
 
+pub const SIDE_PUT: u8 = 9;
+
+pub const SIDE_REMOVE: u8 = 10;
+
+pub const SIDE_ASK: u8 = 11;
+
+pub const SIDE_CLEAR: u8 = 12;
+
+pub const SIDE_REPLAY: u8 = 13;
+
 fn wide(x: u8) -> u64 {
     x as u64
 }
 
-fn small(x: u8) -> usize
+pub fn small(x: u8) -> usize
     ensures { λ r. ⌜ r < 256 ⌝ }
 {
     x as usize
@@ -57,7 +67,7 @@ pub fn whole(s: &[u8]) -> usize
 }
 
 // The number that the bytes of s are.
-fn number(s: &[u8]) -> u64 {
+pub fn number(s: &[u8]) -> u64 {
     let mut n: u64 = 0;
     let mut i: usize = 0;
     while i < s.len() {
@@ -95,13 +105,10 @@ pub(crate) fn output_len(r: &[u8], most: usize) -> usize
     requires { ⌜ 12 ≤ length (now r) ⌝ }
     ensures { λ n. ⌜ n ≤ most ⌝ }
 {
-    if r[0] == ASK {
-        return least(size(r), most);
+    match r[0] {
+        ASK | REPLAY | SIDE_ASK | SIDE_REPLAY => least(size(r), most),
+        _ => 0,
     }
-    if r[0] == REPLAY {
-        return least(size(r), most);
-    }
-    0
 }
 
 // Bytes that count up from b: what a buffer holds before a call.

@@ -91,3 +91,20 @@ hb-book-ask-once κs a h o u p q i = (same (p .0) (q .0) i, (o .1 .0, (o .1 .1 .
 
 hb-play-once : Once hoardbutton.plays.hb_play.ended hoardbutton.plays.hb_play.Reads.Pre hoardbutton.plays.hb_play.Reads.Learnt
 hb-play-once κs a h o u p q i = (same (p .0) (q .0) i, (o .1 .0, (same (p .1) (q .1) i, o .1 .1 .1)))
+
+-- ---- shared: the book is the first of the parameters, the output the last
+
+hb-side-put-once : Once hoardbutton.shared.hb_side_put.ended hoardbutton.shared.hb_side_put.Reads.Pre hoardbutton.shared.hb_side_put.Reads.Learnt
+hb-side-put-once κs a h o u p q i = (same (p .0) (q .0) i, (same (p .1) (q .1) i, o .1 .1))
+
+hb-side-remove-once : Once hoardbutton.shared.hb_side_remove.ended hoardbutton.shared.hb_side_remove.Reads.Pre hoardbutton.shared.hb_side_remove.Reads.Learnt
+hb-side-remove-once κs a h o u p q i = (same (p .0) (q .0) i, (same (p .1) (q .1) i, o .1 .1))
+
+hb-side-clear-once : Once hoardbutton.shared.hb_side_clear.ended hoardbutton.shared.hb_side_clear.Reads.Pre hoardbutton.shared.hb_side_clear.Reads.Learnt
+hb-side-clear-once κs a h o u p q i = (same (p .0) (q .0) i, (same (p .1) (q .1) i, o .1 .1))
+
+hb-side-replay-once : Once hoardbutton.shared.hb_side_replay.ended hoardbutton.shared.hb_side_replay.Reads.Pre hoardbutton.shared.hb_side_replay.Reads.Learnt
+hb-side-replay-once κs a h o u p q i = (same (p .0) (q .0) i, (o .1 .0, (o .1 .1 .0, (o .1 .1 .1 .0, (o .1 .1 .1 .1 .0, (o .1 .1 .1 .1 .1 .0, (same (p .1) (q .1) i, o .1 .1 .1 .1 .1 .1 .1)))))))
+
+hb-side-ask-once : Once hoardbutton.shared.hb_side_ask.ended hoardbutton.shared.hb_side_ask.Reads.Pre hoardbutton.shared.hb_side_ask.Reads.Learnt
+hb-side-ask-once κs a h o u p q i = (same (p .0) (q .0) i, (o .1 .0, (o .1 .1 .0, (o .1 .1 .1 .0, (o .1 .1 .1 .1 .0, (o .1 .1 .1 .1 .1 .0, (o .1 .1 .1 .1 .1 .1 .0, (same (p .1) (q .1) i, o .1 .1 .1 .1 .1 .1 .1 .1))))))))

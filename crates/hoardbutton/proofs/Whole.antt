@@ -23,6 +23,9 @@ use Rattle.book.specs.declared.Answer.the-variants.{Refused}
 use Rattle.book.specs.Book.{ours}
 use Rattle.book.specs.History.{Call, after}
 use Rattle.book.proofs.Places.{after-place}
+use Rattle.owners.specs.Owners.{OwnerTable}
+use Rattle.sides.specs.Calls.{Request, sideCall}
+use Rattle.sides.proofs.Places.{side-place}
 use Rattle.cmd_lora.specs.declared.LoraBw.{LoraBw}
 use Rattle.cmd_lora.specs.Codes.{loraBwCode}
 use Rattle.status.specs.declared.CmdStatus.{CmdStatus}
@@ -125,6 +128,10 @@ plain-whole k vs = built-whole (plainBy k vs) (plain-within k vs)
 -- of every call: what an answer's place is, it is for C
 pub book-whole : (c : Call) (b : List ℕ) (x : Refusal) → after ours c b .answer ≡ Refused x → low (placeOf x) ≡ placeOf x
 book-whole c b x e = low-small (placeOf x) (omega (arith, after-place ours b c x e))
+
+-- so of a side's
+pub side-whole : (t : OwnerTable) (w : ℕ) (c : Request) (o b : List ℕ) (x : Refusal) → sideCall ours t w c o b .answer ≡ Refused x → low (placeOf x) ≡ placeOf x
+side-whole t w c o b x e = low-small (placeOf x) (omega (arith, side-place ours b t w c o x e))
 
 -- ---- the widths stand in the order of their codes
 

@@ -8,7 +8,7 @@ use crate::answers::done;
 use crate::answers::refused;
 use book::Answer;
 
-fn answered(a: Answer) -> HbAnswer
+pub(crate) fn answered(a: Answer) -> HbAnswer
     ensures { λ r. ⌜ r ≡ answerC a ⌝ }
 {
     match a {

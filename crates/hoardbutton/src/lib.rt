@@ -7,3 +7,4 @@ pub mod plays;
 pub mod radio;
 pub mod readings;
 pub mod reels;
+pub mod shared;

@@ -1,4 +1,4 @@
--- Every refusal has a number from 1 to 16 (`number-bounds`).
+-- Every refusal has a number from 1 to 18 (`number-bounds`).
 -- Assumes nothing.
 use Prim.Native.Nat.{_≤_}
 use native.Mathlib.Omega.{arith}
@@ -6,9 +6,9 @@ use Rattle.refusal.specs.Numbers.{numberOf}
 use Rattle.refusal.specs.declared.Refusal.{Refusal}
 use Rattle.refusal.specs.declared.Refusal.the-variants.{ShortFrame, UnknownOpcode, WrongLength, StrayBit, UnknownCode}
 use Rattle.refusal.specs.declared.Refusal.the-variants.{ArgumentOutside, ResponseLength, NoRoom, NotHeld, NotWellFormed}
-use Rattle.refusal.specs.declared.Refusal.the-variants.{BufferSize, OutputShort, NotAKind, ReelCut, TraceFault, BothForms}
+use Rattle.refusal.specs.declared.Refusal.the-variants.{BufferSize, OutputShort, NotAKind, ReelCut, TraceFault, BothForms, OwnersWrong, OtherSide}
 
-pub number-bounds : (x : Refusal) → (1 ≤ numberOf x) × (numberOf x ≤ 16)
+pub number-bounds : (x : Refusal) → (1 ≤ numberOf x) × (numberOf x ≤ 18)
 number-bounds ShortFrame = (omega arith, omega arith)
 number-bounds UnknownOpcode = (omega arith, omega arith)
 number-bounds WrongLength = (omega arith, omega arith)
@@ -25,3 +25,5 @@ number-bounds NotAKind = (omega arith, omega arith)
 number-bounds ReelCut = (omega arith, omega arith)
 number-bounds (TraceFault at) = (omega arith, omega arith)
 number-bounds BothForms = (omega arith, omega arith)
+number-bounds OwnersWrong = (omega arith, omega arith)
+number-bounds OtherSide = (omega arith, omega arith)

@@ -4,7 +4,7 @@ use Prim.Native.Nat.{ℕ}
 use Rattle.refusal.specs.declared.Refusal.{Refusal}
 use Rattle.refusal.specs.declared.Refusal.the-variants.{ShortFrame, UnknownOpcode, WrongLength, StrayBit, UnknownCode}
 use Rattle.refusal.specs.declared.Refusal.the-variants.{ArgumentOutside, ResponseLength, NoRoom, NotHeld, NotWellFormed}
-use Rattle.refusal.specs.declared.Refusal.the-variants.{BufferSize, OutputShort, NotAKind, ReelCut, TraceFault, BothForms}
+use Rattle.refusal.specs.declared.Refusal.the-variants.{BufferSize, OutputShort, NotAKind, ReelCut, TraceFault, BothForms, OwnersWrong, OtherSide}
 
 abbrev pub numberOf : Refusal → ℕ
 -- a frame too short to hold an opcode
@@ -39,6 +39,10 @@ numberOf ReelCut = 14
 numberOf (TraceFault at) = 15
 -- the book holds a setting in both its forms
 numberOf BothForms = 16
+-- the owner table is wrong, the caller is no side, or a side's frames exceed its quota
+numberOf OwnersWrong = 17
+-- the other side owns the kind
+numberOf OtherSide = 18
 
 -- where: the lowest such byte of the frame, counted from 0; of arguments the first, counted from 1; of a trace the byte where the faulty record
 -- starts, counted from 0, and 0 for its header; 0 where there is no place to name
@@ -59,3 +63,5 @@ placeOf OutputShort = 0
 placeOf NotAKind = 0
 placeOf ReelCut = 0
 placeOf BothForms = 0
+placeOf OwnersWrong = 0
+placeOf OtherSide = 0

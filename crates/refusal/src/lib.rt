@@ -20,10 +20,12 @@ pub enum Refusal {
     ReelCut,
     TraceFault(usize),
     BothForms,
+    OwnersWrong,
+    OtherSide,
 }
 
 impl Refusal {
-    // Its number, 1 to 16.
+    // Its number, 1 to 18.
     pub fn number(self) -> u32
         ensures { λ r. ⌜ r ≡ numberOf self ⌝ }
     {
@@ -44,6 +46,8 @@ impl Refusal {
             Refusal::ReelCut => 14,
             Refusal::TraceFault(_) => 15,
             Refusal::BothForms => 16,
+            Refusal::OwnersWrong => 17,
+            Refusal::OtherSide => 18,
         }
     }
 
@@ -68,6 +72,8 @@ impl Refusal {
             Refusal::NotAKind => 0,
             Refusal::ReelCut => 0,
             Refusal::BothForms => 0,
+            Refusal::OwnersWrong => 0,
+            Refusal::OtherSide => 0,
         }
     }
 }

@@ -69,7 +69,7 @@ all-sized = refl
 
 -- ---- lengths
 
-both : (x y : Bool) → x && y ≡ true → (x ≡ true) × (y ≡ true)
+pub both : (x y : Bool) → x && y ≡ true → (x ≡ true) × (y ≡ true)
 both true true e = (refl, refl)
 both true false e = absurd (false≢true e)
 both false y e = absurd (false≢true e)

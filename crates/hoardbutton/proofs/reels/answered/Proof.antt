@@ -1,4 +1,6 @@
+use mathlib.Core.Path.{ap, sym, _∙_}
 use borrow.Author.Needs.{needs}
+use Rattle.hoardbutton.specs.Reels.{dumpC}
 use Rattle.hoardbutton.proofs.reels.answered.Statement.{statement}
 use Rattle.hoardbutton.proofs.reels.answered.Tie as tie
 
@@ -6,7 +8,7 @@ returns : tie.Need-returns
 returns c = cc
 
 returns-2 : tie.Need-returns-2
-returns-2 c = cc
+returns-2 c = c .refused .ensures ∙ sym (ap dumpC (c .before .before .d2 .given .1))
 
 pub answered-spec : {M : Type 1} → statement M
 answered-spec = tie.close (tie.spec (λ c. search needs) (λ c κs. search needs) (λ c. search needs) (λ c κs. search needs) returns returns-2)

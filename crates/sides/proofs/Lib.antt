@@ -1,0 +1,15 @@
+pub mod Parts
+pub mod Views
+pub mod Quotas
+pub mod Means
+pub mod Weights
+pub mod Calling
+pub mod Picking
+pub mod Keeps
+pub mod Places
+pub mod Outcome
+pub mod Kept
+pub mod History
+pub mod Apart
+pub mod Answers
+pub mod Examples

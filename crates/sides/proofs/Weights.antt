@@ -1,0 +1,127 @@
+-- A side's bytes as a header tells them are those of its frames (`weight-is`), and so what they would be after a put (`weight-placed`); the sum
+-- slot by slot, in the code's own terms (`weight-..`).
+-- Assumes nothing.
+use mathlib.Core.Path.{ap, ap₂, refl, sym, _∙_, _≡_}
+use mathlib.Core.Bool.{Bool, cond, true, _&&_}
+use mathlib.Core.List.{List, [], _++_, _∷_}
+use Prim.Native.Nat.{suc, zero, ℕ, _+_, _-_, _<_, _≤_}
+use native.Mathlib.Omega.{arith}
+use borrow.Author.Tests.{eq-eqb, ne-eqb}
+use lib.ListN.{length, length-append}
+use Rattle.table.specs.Table.{settings}
+use Rattle.settings.specs.Settings.{sizeOf, slotOf}
+use Rattle.settings.proofs.Settings.{slotOf-length}
+use Rattle.contents.specs.Frames.{flat, held}
+use Rattle.contents.specs.Contents.{Layout, holds, offsetAt, presentAt}
+use Rattle.contents.proofs.Shape.{Sound, place-in, sum-held, sumFrom}
+use Rattle.contents.proofs.Loops.{minus-end, minus-step}
+use Rattle.forms.specs.Forms.{other}
+use Rattle.forms.proofs.Forms.{other-low}
+use Rattle.owners.specs.Owners.{OwnerTable, ownerOf, owns}
+use Rattle.book.specs.Plain.{placed}
+use Rattle.book.specs.Book.{opened}
+use Rattle.book.proofs.Calls.{opened-judge, present-held}
+use Rattle.book.proofs.Kept.{opened-kept}
+use Rattle.book.proofs.Placed.{by-place}
+use Rattle.book.proofs.Putting.{flat-split}
+use Rattle.book.proofs.Swapping.{swap-room}
+use Rattle.sides.specs.Parts.{chosen, partOf}
+use Rattle.sides.specs.Means.{weightAfter, weightFrom}
+use Rattle.sides.proofs.Parts.{held-both, held-chosen, sound-chosen}
+
+-- ---- the sum, slot by slot
+
+module _ (n : ℕ) (q : ℕ → Bool) (b : List ℕ) (k : ℕ) where
+  pub weight-step : k < n → weightFrom (n - k) q b k ≡ cond (presentAt b k && q k) (sizeOf k) 0 + weightFrom (n - (k + 1)) q b (k + 1)
+  unfolding weightFrom
+  weight-step h = ap (λ (m : ℕ). weightFrom m q b k) (minus-step n k h)
+
+  pub weight-end : n ≤ k → weightFrom (n - k) q b k ≡ 0
+  unfolding weightFrom
+  weight-end h = ap (λ (m : ℕ). weightFrom m q b k) (minus-end n k h)
+
+-- one slot
+module _ (b ws : List ℕ) (w k : ℕ) where
+  pub slot-absent : offsetAt b k ≡ 0 → 0 ≡ cond (presentAt b k && owns ws w k) (sizeOf k) 0
+  slot-absent o = sym (rw (eq-eqb (offsetAt b k) 0 o))
+
+  module _ (o : offsetAt b k ≡ 0 → ⊥) where
+    pub slot-own : ownerOf ws k ≡ w → sizeOf k ≡ cond (presentAt b k && owns ws w k) (sizeOf k) 0
+    unfolding owns
+    slot-own e = sym (rw (ne-eqb (offsetAt b k) 0 o, eq-eqb (ownerOf ws k) w e))
+
+    pub slot-foreign : (ownerOf ws k ≡ w → ⊥) → 0 ≡ cond (presentAt b k && owns ws w k) (sizeOf k) 0
+    unfolding owns
+    slot-foreign e = sym (rw (ne-eqb (offsetAt b k) 0 o, ne-eqb (ownerOf ws k) w e))
+
+-- after a put
+module _ (b ws : List ℕ) (w s n r : ℕ) (h : r ≡ weightFrom settings (owns ws w) b 0) where
+  pub after-over : (offsetAt b s ≡ 0 → ⊥) → r ≡ weightAfter b ws w s n
+  unfolding weightAfter
+  after-over o = h ∙ sym (rw (ne-eqb (offsetAt b s) 0 o))
+
+  module _ (z : offsetAt b s ≡ 0) (t : ℕ) (e : t ≡ other s) where
+    pub after-last : offsetAt b t ≡ 0 → r + n ≡ weightAfter b ws w s n
+    unfolding weightAfter
+    after-last o = ap (λ (x : ℕ). x + n) h ∙ sym (rw (eq-eqb (offsetAt b s) 0 z, eq-eqb (offsetAt b (other s)) 0 (ap (offsetAt b) (sym e) ∙ o)))
+
+    pub after-swap : (offsetAt b t ≡ 0 → ⊥) → (k : ℕ) → k ≡ sizeOf t → r - k + n ≡ weightAfter b ws w s n
+    unfolding weightAfter
+    after-swap o k q =
+        ap₂ (λ (x y : ℕ). x - y + n) h (q ∙ ap sizeOf e)
+        ∙ sym (rw (eq-eqb (offsetAt b s) 0 z, ne-eqb (offsetAt b (other s)) 0 (λ y. o (ap (offsetAt b) e ∙ y))))
+
+    pub after-less : (offsetAt b t ≡ 0 → ⊥) → (k : ℕ) → k ≡ sizeOf t → r < k → n ≡ weightAfter b ws w s n
+    after-less o k q l = let d : n ≡ r - k + n = omega arith in d ∙ after-swap o k q
+
+-- ---- a book's frames
+
+module _ (l : Layout) (big : settings ≤ l .slots) (b : List ℕ) (fs : List (List ℕ)) (h : opened l b ≡ holds fs) where
+  weight-sum : (q : ℕ → Bool) (n s : ℕ) → s + n ≤ settings → weightFrom n q b s ≡ sumFrom n (λ j. cond (held j (chosen q fs)) (sizeOf j) 0) s
+  unfolding weightFrom sumFrom
+  weight-sum q zero s a = refl
+  weight-sum q (suc n) s a =
+      ap₂ (λ (x : Bool) (y : ℕ). cond x (sizeOf s) 0 + y)
+      (ap (λ (x : Bool). x && q s) (present-held l b fs (opened-judge l b fs h) s (omega arith)) ∙ sym (held-both q s fs))
+      (weight-sum q n (s + 1) (omega arith))
+
+  pub weight-is : (q : ℕ → Bool) → weightFrom settings q b 0 ≡ length (flat (chosen q fs))
+  weight-is q = weight-sum q settings 0 (omega arith) ∙ sum-held (chosen q fs) (sound-chosen q fs (opened-kept l b fs h .sound))
+
+  -- what the code weighs is the side's list after the put
+  module _ (t : OwnerTable) (w : ℕ) (f : List ℕ) (a : slotOf f < settings) (own : owns (t .owners) w (slotOf f) ≡ true)
+      (twin : owns (t .owners) w (other (slotOf f)) ≡ true) where
+    S : Sound (partOf t w fs)
+    S = sound-chosen (owns (t .owners) w) fs (opened-kept l b fs h .sound)
+
+    present : (s : ℕ) → s < settings → owns (t .owners) w s ≡ true → presentAt b s ≡ held s (partOf t w fs)
+    present s c e = present-held l b fs (opened-judge l b fs h) s (omega arith) ∙ sym (held-chosen (owns (t .owners) w) s e fs)
+
+    weighs : weightFrom settings (owns (t .owners) w) b 0 ≡ length (flat (partOf t w fs))
+    weighs = weight-is (owns (t .owners) w)
+
+    pub weight-placed : weightAfter b (t .owners) w (slotOf f) (length f) ≡ length (flat (placed f (partOf t w fs)))
+    unfolding weightAfter flat
+    weight-placed =
+        by-place f (partOf t w fs) (λ gs. weightAfter b (t .owners) w (slotOf f) (length f) ≡ length (flat gs))
+        (λ x.
+        rw (present (slotOf f) a own, x)
+        (omega (
+          arith,
+          weighs,
+          swap-room (slotOf f) f (partOf t w fs) S x,
+          slotOf-length f a,
+          place-in 0 (partOf t w fs) (slotOf f) S x,
+        )))
+        (λ x y.
+        rw (present (slotOf f) a own, x, present (other (slotOf f)) (other-low (slotOf f) a) twin, y)
+        (ap (λ (n : ℕ). n - sizeOf (other (slotOf f)) + length f) weighs ∙ sym (swap-room (other (slotOf f)) f (partOf t w fs) S y)))
+        (λ x y.
+        rw (present (slotOf f) a own, x, present (other (slotOf f)) (other-low (slotOf f) a) twin, y)
+        (omega (
+          arith,
+          weighs,
+          ap length (flat-split (partOf t w fs) (f ∷ [])),
+          length-append (flat (partOf t w fs)) (f ++ []),
+          length-append f [],
+        )))
