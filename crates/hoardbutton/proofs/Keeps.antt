@@ -20,7 +20,7 @@ use Rattle.contents.proofs.Judged.{Bytes}
 use Rattle.book.proofs.Keeps.{lentTo, refused-keeps}
 use Rattle.owners.specs.Owners.{OwnerTable}
 use Rattle.sides.specs.Calls.{Request, sideCall}
-use Rattle.sides.proofs.Keeps.{side-keeps as shared-keeps}
+use Rattle.sides.proofs.Keeps.{side-keeps}
 use Rattle.playback.specs.Plays.{plays}
 use Rattle.playback.proofs.Laws.{play-keeps as day-keeps}
 use Rattle.hoardbutton.specs.Books.{answerC}
@@ -44,14 +44,14 @@ book-keeps c b B = by (after ours c b .answer) refl
     by (Refused x) e q = refused-keeps ours c b B x e
 
 -- `hb_side_put` and its like
-pub side-keeps : (t : OwnerTable) (w : ℕ) (c : Request) (o b : List ℕ) → Bytes b → 0 < answerC (sideCall ours t w c o b .answer) .refusal
+pub shared-keeps : (t : OwnerTable) (w : ℕ) (c : Request) (o b : List ℕ) → Bytes b → 0 < answerC (sideCall ours t w c o b .answer) .refusal
     → (sideCall ours t w c o b .output ≡ o) × (sideCall ours t w c o b .bytes ≡ b)
-side-keeps t w c o b B = by (sideCall ours t w c o b .answer) refl
+shared-keeps t w c o b B = by (sideCall ours t w c o b .answer) refl
   where
     by : (a : Answer) → sideCall ours t w c o b .answer ≡ a → 0 < answerC a .refusal
         → (sideCall ours t w c o b .output ≡ o) × (sideCall ours t w c o b .bytes ≡ b)
     by (Done n) e q = absurd (omega arith)
-    by (Refused x) e q = shared-keeps ours t w c o b B x e
+    by (Refused x) e q = side-keeps ours t w c o b B x e
 
 -- `hb_play`: by its own refusal, 11, nothing is altered. By 15 the book is that of the records before the fault: the one refusal that alters.
 pub play-keeps : (t b : List ℕ) → dayC (plays t b .played) .refusal ≡ 11 → plays t b .bytes ≡ b

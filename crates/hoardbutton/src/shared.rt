@@ -1,5 +1,4 @@
 // The settings book of two sides: each call is lent the owner table, and told both quotas and who calls.
-ghost use mathlib.Core.Path.{_≡_};
 ghost use mathlib.Core.List.{[]};
 ghost use Rattle.owners.specs.Owners.{ownerTable};
 ghost use Rattle.book.specs.Book.{ours};

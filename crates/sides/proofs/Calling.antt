@@ -1,5 +1,5 @@
--- What a side's call gives on a book's bytes, by the way that the code went: refused before it (`turned-back`), refused by 18 (`barred-away`), or
--- one of the book's own calls.
+-- What a side's call gives on a book's bytes, by the way that the code went: refused (`wrong-away`, `barred-away`, `put-away`), the book's own
+-- refusals first, or one of the book's own calls, which judges the book itself.
 -- Assumes nothing.
 use mathlib.Core.Path.{ap, ap₂, refl, subst, sym, _∙_, _≡_}
 use mathlib.Core.Bool.{Bool, cond, false, true}
@@ -7,7 +7,7 @@ use mathlib.Core.List.{List, [], _++_}
 use Prim.Native.Nat.{suc, zero, ℕ, _+_, _-_, _<_, _≤_}
 use native.Mathlib.Omega.{arith}
 use borrow.Author.Tests.{eq-eqb, le-leb, lt-leb, lt-ltb, ltb-true}
-use lib.Dec.{leb, ltb}
+use lib.Dec.{eqb, leb, ltb}
 use lib.ListN.{drop, length, length-append, take}
 use lib.Seq.{take-append-seam}
 use Rattle.refusal.specs.declared.Refusal.{Refusal}
@@ -27,19 +27,19 @@ use Rattle.book.specs.declared.Answer.{Answer}
 use Rattle.book.specs.declared.Answer.the-variants.{Done, Refused}
 use Rattle.book.specs.Plain.{Turn, askOn, become, clearOn, placed, putOn, refuse, removeOn, replayOn, tell, without}
 use Rattle.book.specs.Book.{Outcome, Permits, Tells, call, onContents, opened, ours, verdict}
-use Rattle.book.proofs.Calls.{Gives, Holds, done-refused, opened-bytes, opened-judge, present-held, turned-away}
+use Rattle.book.proofs.Calls.{Gives, done-refused, opened-bytes, opened-judge, present-held, turned-away}
 use Rattle.book.proofs.Kept.{Kept, opened-kept, remove-kept}
 use Rattle.book.proofs.Known.{stay}
 use Rattle.book.proofs.History.{call-image}
 use Rattle.book.proofs.Single.{replay-most}
 use Rattle.sides.specs.Parts.{chosen, partOf, restOf, withinQuotas}
 use Rattle.sides.specs.Calls.{Ask, Clear, Put, Remove, Replay, Request, barred, foreign, mayCall, named, sideCall, sideOn}
-use Rattle.sides.specs.Means.{Retold, admission, emptied, emptiedBytes, picked, weightAfter}
+use Rattle.sides.specs.Means.{Retold, emptied, emptiedBytes, longestReel, mayRead, picked, unless, weightAfter, weightFrom}
 use Rattle.sides.proofs.Views.{own-slot}
-use Rattle.sides.proofs.Means.{ask-means, emptied-rest, may-call, put-full, put-means, put-none, remove-means, side-barred, side-step}
-use Rattle.sides.proofs.Weights.{weight-placed}
+use Rattle.sides.proofs.Means.{ask-means, emptied-rest, may-call, put-full, put-means, put-none, remove-means, side-barred, side-step, side-wrong}
+use Rattle.sides.proofs.Weighing.{side-weight, weight-is, weight-placed}
 
--- ---- before a side's call
+-- ---- what the code reads
 
 -- a book that a side may call
 pub record Open (t : OwnerTable) (w : ℕ) (b : List ℕ) : Type 0 where
@@ -47,73 +47,43 @@ pub record Open (t : OwnerTable) (w : ℕ) (b : List ℕ) : Type 0 where
   pub opens : opened ours b ≡ holds frames
   pub may : mayCall (ours .slots) t w (roomOf ours (length b)) (partOf t 1 frames) (partOf t 2 frames) ≡ true
 
-module _ (t : OwnerTable) (w : ℕ) (b : List ℕ) where
-  -- what is said before the call, case by case
-  pub admit-refused : (a : Answer) (x : Refusal) → a ≡ verdict (opened ours b) → a ≡ Refused x → a
-      ≡ admission (ours .slots) t w (roomOf ours (length b)) (opened ours b)
-  admit-refused a x e z = go (opened ours b) e
-    where
-      go : (q : Contents) → a ≡ verdict q → a ≡ admission (ours .slots) t w (roomOf ours (length b)) q
-      go (refused y) h = h
-      go (holds fs) h = absurd (done-refused 0 x (sym h ∙ z))
+-- what the header says of the quotas is so of the frames
+read-may : (t : OwnerTable) (w : ℕ) (b : List ℕ) (fs : List (List ℕ)) → opened ours b ≡ holds fs
+    → mayRead (ours .slots) t w (roomOf ours (length b)) b ≡ mayCall (ours .slots) t w (roomOf ours (length b)) (partOf t 1 fs) (partOf t 2 fs)
+unfolding mayRead mayCall withinQuotas
+read-may t w b fs h =
+    rw (weight-is ours (omega arith) b fs h (owns (t .owners) 1), weight-is ours (omega arith) b fs h (owns (t .owners) 2))
 
-  module _ (h : Holds ours b) where
-    admit-is : (x : Bool) → mayCall (ours .slots) t w (roomOf ours (length b)) (partOf t 1 (h .frames)) (partOf t 2 (h .frames)) ≡ x
-        → cond x (Done 0) (Refused OwnersWrong) ≡ admission (ours .slots) t w (roomOf ours (length b)) (opened ours b)
-    admit-is x e = sym (rw (h .opens, e))
+-- a refusal behind the book's own
+pub refused-own : (why : Refusal) (q : Contents) (a : Answer) (x : Refusal) → a ≡ verdict q → a ≡ Refused x → a ≡ unless why q
+refused-own why (refused y) a x h z = h
+refused-own why (holds fs) a x h z = absurd (done-refused 0 x (sym h ∙ z))
 
-    pub admit-table : tableRight (ours .slots) (roomOf ours (length b)) t ≡ false
-        → Refused OwnersWrong ≡ admission (ours .slots) t w (roomOf ours (length b)) (opened ours b)
-    unfolding mayCall
-    admit-table e = admit-is false (rw e)
+pub refused-why : (why : Refusal) (q : Contents) (n : ℕ) → Done n ≡ verdict q → Refused why ≡ unless why q
+refused-why why (refused y) n h = absurd (done-refused n y h)
+refused-why why (holds fs) n h = refl
 
-    module _ (right : tableRight (ours .slots) (roomOf ours (length b)) t ≡ true) where
-      pub admit-caller : isSide w ≡ false → Refused OwnersWrong ≡ admission (ours .slots) t w (roomOf ours (length b)) (opened ours b)
-      unfolding mayCall
-      admit-caller e = admit-is false (rw (right, e))
+-- what is read of table, caller and quotas, one after the other
+module _ (m : ℕ) (t : OwnerTable) (w room : ℕ) (b : List ℕ) where
+  pub read-table : tableRight m room t ≡ false → false ≡ mayRead m t w room b
+  unfolding mayRead
+  read-table e = sym (rw e)
 
-      module _ (side : isSide w ≡ true) where
-        pub admit-first : t .quota1 < length (flat (partOf t 1 (h .frames)))
-            → Refused OwnersWrong ≡ admission (ours .slots) t w (roomOf ours (length b)) (opened ours b)
-        unfolding mayCall withinQuotas
-        admit-first e = admit-is false (rw (right, side, lt-leb (length (flat (partOf t 1 (h .frames)))) (t .quota1) e))
+  module _ (right : tableRight m room t ≡ true) where
+    pub read-caller : isSide w ≡ false → false ≡ mayRead m t w room b
+    unfolding mayRead
+    read-caller e = sym (rw (right, e))
 
-        module _ (one : length (flat (partOf t 1 (h .frames))) ≤ t .quota1) where
-          pub admit-second : t .quota2 < length (flat (partOf t 2 (h .frames)))
-              → Refused OwnersWrong ≡ admission (ours .slots) t w (roomOf ours (length b)) (opened ours b)
-          unfolding mayCall withinQuotas
-          admit-second e =
-              admit-is false (rw (
-                right,
-                side,
-                le-leb (length (flat (partOf t 1 (h .frames)))) (t .quota1) one,
-                lt-leb
-                    (length (flat (partOf t 2 (h .frames)))) (t .quota2) e,
-              ))
+    module _ (side : isSide w ≡ true) (r : ℕ) (h : r ≡ weightFrom settings (owns (t .owners) 1) b 0) where
+      pub read-first : t .quota1 < r → false ≡ mayRead m t w room b
+      unfolding mayRead
+      read-first l = sym (rw (right, side, lt-leb (weightFrom settings (owns (t .owners) 1) b 0) (t .quota1) (omega arith)))
 
-          pub admit-done : length (flat (partOf t 2 (h .frames))) ≤ t .quota2 → Done 0 ≡ admission (ours .slots) t w (roomOf ours (length b)) (opened ours b)
-          unfolding mayCall withinQuotas
-          admit-done e =
-              admit-is true (rw (
-                right,
-                side,
-                le-leb (length (flat (partOf t 1 (h .frames)))) (t .quota1) one,
-                le-leb
-                    (length (flat (partOf t 2 (h .frames)))) (t .quota2) e,
-              ))
-
-  -- where a side may call
-  pub admit-open : (n : ℕ) (a : Answer) → a ≡ admission (ours .slots) t w (roomOf ours (length b)) (opened ours b) → a ≡ Done n → Open t w b
-  admit-open n a e z = go (opened ours b) refl e
-    where
-      go : (q : Contents) → opened ours b ≡ q → a ≡ admission (ours .slots) t w (roomOf ours (length b)) q → Open t w b
-      go (refused y) h r = absurd (done-refused n y (sym z ∙ r))
-      go (holds fs) h r = by (mayCall (ours .slots) t w (roomOf ours (length b)) (partOf t 1 fs) (partOf t 2 fs)) refl r
-        where
-          by : (x : Bool) → mayCall (ours .slots) t w (roomOf ours (length b)) (partOf t 1 fs) (partOf t 2 fs) ≡ x → a
-              ≡ cond x (Done 0) (Refused OwnersWrong) → Open t w b
-          by true m k = record { frames = fs; opens = h; may = m }
-          by false m k = absurd (done-refused n OwnersWrong (sym z ∙ k))
+      pub read-second : r ≤ t .quota1 → (s : ℕ) → s ≡ weightFrom settings (owns (t .owners) 2) b 0 → leb s (t .quota2) ≡ mayRead m t w room b
+      unfolding mayRead
+      read-second l s g =
+          ap (λ (x : ℕ). leb x (t .quota2)) g
+          ∙ sym (rw (right, side, le-leb (weightFrom settings (owns (t .owners) 1) b 0) (t .quota1) (omega arith)))
 
 -- ---- a side's call
 
@@ -123,50 +93,70 @@ module _ (t : OwnerTable) (w : ℕ) (b : List ℕ) (B : Bytes b) where
       → s o (roomOf ours (length b)) fs ≡ refuse x o fs → Gives ours s o b (Refused x) o b
   kept-away s o fs x h e = stay ours b B (record { frames = fs; reads = opened-judge ours b fs h; opens = h }) s o (Refused x) o e
 
-  -- what is refused before the call is its answer
-  pub turned-back : (c : Request) (o : List ℕ) (a : Answer) (x : Refusal) → a ≡ admission (ours .slots) t w (roomOf ours (length b)) (opened ours b)
-      → a ≡ Refused x → Gives ours (sideOn (ours .slots) t w c) o b a o b
-  unfolding sideOn
-  turned-back c o a x e z = go (opened ours b) refl e
+  -- a refusal that the side's list gives comes behind the book's own
+  away : (c : Request) (o : List ℕ) (x : Refusal)
+      → ((fs : List (List ℕ)) → opened ours b ≡ holds fs → sideOn (ours .slots) t w c o (roomOf ours (length b)) fs ≡ refuse x o fs)
+      → (a : Answer) → a ≡ unless x (opened ours b) → Gives ours (sideOn (ours .slots) t w c) o b a o b
+  away c o x s a e = go (opened ours b) refl e
     where
-      go : (q : Contents) → opened ours b ≡ q → a ≡ admission (ours .slots) t w (roomOf ours (length b)) q → Gives ours (sideOn (ours .slots) t w c) o b a o b
-      go (refused y) h r = turned-away ours (sideOn (ours .slots) t w c) o b a x (r ∙ ap verdict (sym h)) z
-      go (holds fs) h r = by (mayCall (ours .slots) t w (roomOf ours (length b)) (partOf t 1 fs) (partOf t 2 fs)) refl r
-        where
-          by : (y : Bool) → mayCall (ours .slots) t w (roomOf ours (length b)) (partOf t 1 fs) (partOf t 2 fs) ≡ y → a ≡ cond y (Done 0) (Refused OwnersWrong)
-              → Gives ours (sideOn (ours .slots) t w c) o b a o b
-          by true m k = absurd (done-refused 0 x (sym k ∙ z))
-          by false m k =
-              subst (λ (y : Answer). Gives ours (sideOn (ours .slots) t w c) o b y o b) (sym k)
-              (kept-away (sideOn (ours .slots) t w c) o fs OwnersWrong h (rw m))
+      go : (q : Contents) → opened ours b ≡ q → a ≡ unless x q → Gives ours (sideOn (ours .slots) t w c) o b a o b
+      go (refused y) h r = turned-away ours (sideOn (ours .slots) t w c) o b a y (r ∙ ap verdict (sym h)) r
+      go (holds fs) h r =
+          subst (λ (y : Answer). Gives ours (sideOn (ours .slots) t w c) o b y o b) (sym r) (kept-away (sideOn (ours .slots) t w c) o fs x h (s fs h))
 
-  module _ (O : Open t w b) where
-    pub barred-away : (c : Request) (o : List ℕ) → barred t w c ≡ true → Gives ours (sideOn (ours .slots) t w c) o b (Refused OtherSide) o b
-    barred-away c o u =
-        kept-away (sideOn (ours .slots) t w c) o (O .frames) OtherSide (O .opens)
-        (side-barred (ours .slots) t w (roomOf ours (length b)) (O .frames) (O .may) c o u)
+  -- a step that does to the book's frames what the side's call does is the call
+  same-call : (s : List ℕ → ℕ → List (List ℕ) → Turn) (c : Request) (o : List ℕ)
+      → ((fs : List (List ℕ)) → opened ours b ≡ holds fs
+      → sideOn (ours .slots) t w c o (roomOf ours (length b)) fs ≡ s o (roomOf ours (length b)) fs)
+      → call ours s o b ≡ sideCall ours t w c o b
+  unfolding call
+  same-call s c o e = go (opened ours b) refl
+    where
+      go : (q : Contents) → opened ours b ≡ q → onContents ours s o b q ≡ onContents ours (sideOn (ours .slots) t w c) o b q
+      go (refused y) h = refl
+      go (holds fs) h = sym (rw (e fs h))
 
-    -- a step that does to the book's frames what the side's call does is the call
-    same-call : (s : List ℕ → ℕ → List (List ℕ) → Turn) (c : Request) (o : List ℕ)
-        → sideOn (ours .slots) t w c o (roomOf ours (length b)) (O .frames) ≡ s o (roomOf ours (length b)) (O .frames) → call ours s o b
-        ≡ sideCall ours t w c o b
-    unfolding call
-    same-call s c o e = sym (rw (O .opens, e))
+  -- a side that may not call
+  wrong-frames : mayRead (ours .slots) t w (roomOf ours (length b)) b ≡ false → (fs : List (List ℕ)) → opened ours b ≡ holds fs → (c : Request) (o : List ℕ)
+      → sideOn (ours .slots) t w c o (roomOf ours (length b)) fs ≡ refuse OwnersWrong o fs
+  wrong-frames bad fs h c o = side-wrong (ours .slots) t w (roomOf ours (length b)) fs (sym (read-may t w b fs h) ∙ bad) c o
+
+  pub wrong-kept : mayRead (ours .slots) t w (roomOf ours (length b)) b ≡ false → (fs : List (List ℕ)) → opened ours b ≡ holds fs → (c : Request) (o : List ℕ)
+      → Gives ours (sideOn (ours .slots) t w c) o b (Refused OwnersWrong) o b
+  wrong-kept bad fs h c o = kept-away (sideOn (ours .slots) t w c) o fs OwnersWrong h (wrong-frames bad fs h c o)
+
+  pub wrong-away : mayRead (ours .slots) t w (roomOf ours (length b)) b ≡ false → (c : Request) (o : List ℕ) (a : Answer)
+      → a ≡ unless OwnersWrong (opened ours b) → Gives ours (sideOn (ours .slots) t w c) o b a o b
+  wrong-away bad c o = away c o OwnersWrong (λ fs h. wrong-frames bad fs h c o)
+
+  module _ (good : mayRead (ours .slots) t w (roomOf ours (length b)) b ≡ true) where
+    pub may : (fs : List (List ℕ)) → opened ours b ≡ holds fs → mayCall (ours .slots) t w (roomOf ours (length b)) (partOf t 1 fs) (partOf t 2 fs) ≡ true
+    may fs h = sym (read-may t w b fs h) ∙ good
+
+    abbrev pub enter : (fs : List (List ℕ)) → opened ours b ≡ holds fs → Open t w b
+    enter fs h = record { frames = fs; opens = h; may = may fs h }
+
+    pub barred-away : (c : Request) (o : List ℕ) → barred t w c ≡ true → (a : Answer) → a ≡ unless OtherSide (opened ours b)
+        → Gives ours (sideOn (ours .slots) t w c) o b a o b
+    barred-away c o u = away c o OtherSide (λ fs h. side-barred (ours .slots) t w (roomOf ours (length b)) fs (may fs h) c o u)
 
     pub remove-call : (k : ℕ) → barred t w (Remove k) ≡ false → call ours (removeOn k) [] b ≡ sideCall ours t w (Remove k) [] b
-    remove-call k u = same-call (removeOn k) (Remove k) [] (remove-means (ours .slots) t w (roomOf ours (length b)) (O .frames) (O .may) k [] u)
+    remove-call k u = same-call (removeOn k) (Remove k) [] (λ fs h. remove-means (ours .slots) t w (roomOf ours (length b)) fs (may fs h) k [] u)
 
     pub ask-call : (k : ℕ) (o : List ℕ) → barred t w (Ask k) ≡ false → call ours (askOn k) o b ≡ sideCall ours t w (Ask k) o b
-    ask-call k o u = same-call (askOn k) (Ask k) o (ask-means (ours .slots) t w (roomOf ours (length b)) (O .frames) (O .may) k o u)
+    ask-call k o u = same-call (askOn k) (Ask k) o (λ fs h. ask-means (ours .slots) t w (roomOf ours (length b)) fs (may fs h) k o u)
 
     -- ---- put
 
     module _ (f : List ℕ) (s : ℕ) (e : s ≡ slotOf f) (u : barred t w (Put f) ≡ false) where
       -- what is no setting's frame goes to the book's put, which refuses it
       pub put-other : settings ≤ s → call ours (putOn f) [] b ≡ sideCall ours t w (Put f) [] b
-      put-other a = same-call (putOn f) (Put f) [] (put-none (ours .slots) t w (roomOf ours (length b)) (O .frames) (O .may) f [] (omega arith) u)
+      put-other a =
+          same-call (putOn f) (Put f) [] (λ fs h. put-none (ours .slots) t w (roomOf ours (length b)) fs (may fs h) f [] (omega arith) u)
 
-      module _ (a : s < settings) (r : ℕ) (h : r ≡ weightAfter b (t .owners) w s (length f)) where
+      module _ (a : s < settings) (held r : ℕ)
+          (k : held ≡ cond (eqb w 1) (weightFrom settings (owns (t .owners) 1) b 0) (weightFrom settings (owns (t .owners) 2) b 0))
+          (g : r ≡ weightAfter b s held (length f)) where
         low : slotOf f < settings
         low = omega arith
 
@@ -174,23 +164,25 @@ module _ (t : OwnerTable) (w : ℕ) (b : List ℕ) (B : Bytes b) where
         unfolding barred
         own = own-slot t w (slotOf f) u (lt-ltb (slotOf f) settings low)
 
-        weighed : r ≡ length (flat (placed f (partOf t w (O .frames))))
-        weighed =
-            let M = may-call (ours .slots) t w (roomOf ours (length b)) (O .frames) (O .may) in
-            h
-            ∙ ap (λ (x : ℕ). weightAfter b (t .owners) w x (length f)) e
-            ∙ weight-placed ours (omega arith) b (O .frames) (O .opens) t w f low own
+        weighed : (fs : List (List ℕ)) → opened ours b ≡ holds fs → r ≡ length (flat (placed f (partOf t w fs)))
+        weighed fs h =
+            let M = may-call (ours .slots) t w (roomOf ours (length b)) fs (may fs h) in
+            g
+            ∙ ap₂ (λ (x y : ℕ). weightAfter b x y (length f)) e
+            (k ∙ side-weight b (t .owners) w (M .side) ∙ weight-is ours (omega arith) b fs h (owns (t .owners) w))
+            ∙ weight-placed ours (omega arith) b fs h t w f low own
             (owns-other (t .owners) (table-right (ours .slots) (roomOf ours (length b)) t (M .right) .whole) w (slotOf f) ∙ own)
 
         pub put-call : r ≤ quotaOf t w → call ours (putOn f) [] b ≡ sideCall ours t w (Put f) [] b
         put-call q =
-            same-call (putOn f) (Put f) [] (put-means (ours .slots) t w (roomOf ours (length b)) (O .frames) (O .may) (omega arith)
-            (opened-kept ours b (O .frames) (O .opens) .sound) f [] low u (omega (arith, weighed)))
+            same-call (putOn f) (Put f) []
+            (λ fs h. put-means (ours .slots) t w (roomOf ours (length b)) fs (may fs h) (omega arith) (opened-kept ours b fs h .sound) f [] low u
+            (omega (arith, weighed fs h)))
 
-        pub put-away : quotaOf t w < r → Gives ours (sideOn (ours .slots) t w (Put f)) [] b (Refused NoRoom) [] b
+        pub put-away : quotaOf t w < r → (x : Answer) → x ≡ unless NoRoom (opened ours b) → Gives ours (sideOn (ours .slots) t w (Put f)) [] b x [] b
         put-away q =
-            kept-away (sideOn (ours .slots) t w (Put f)) [] (O .frames) NoRoom (O .opens)
-            (put-full (ours .slots) t w (roomOf ours (length b)) (O .frames) (O .may) f [] low u (omega (arith, weighed)))
+            away (Put f) [] NoRoom
+            (λ fs h. put-full (ours .slots) t w (roomOf ours (length b)) fs (may fs h) f [] low u (omega (arith, weighed fs h)))
 
 -- a setting's frame is short
 pub setting-short : (f : List ℕ) (s : ℕ) → s ≡ slotOf f → s < settings → length f ≤ 255
@@ -293,44 +285,57 @@ tell-apart x o fs gs = go (leb (length x) (length o))
     go false = (refl, refl)
 
 -- what the whole replay told of a book
-pub record Replayed (out : List ℕ) (n : ℕ) (fs : List (List ℕ)) : Type 0 where
-  pub reel : take (n - 0) out ≡ reelOf fs
+pub record Replayed (b out : List ℕ) (n : ℕ) : Type 0 where
+  pub frames : List (List ℕ)
+  pub opens : opened ours b ≡ holds frames
+  pub reel : take (n - 0) out ≡ reelOf frames
   pub fits : n ≤ length out
 
-module _ (t : OwnerTable) (w : ℕ) (b : List ℕ) (O : Open t w b) where
-  module _ (o : List ℕ) (long : 195 ≤ length o) where
-    -- the replay into a buffer for every reel is never refused
-    replayed : replayOn o (roomOf ours (length b)) (O .frames)
-        ≡ record { answer = Done (length (reelOf (O .frames))); output = reelOf (O .frames) ++ drop (length (reelOf (O .frames))) o; frames = O .frames }
-    unfolding replayOn
-    replayed = rw (le-leb (length (reelOf (O .frames))) (length o) (omega (arith, replay-most ours b (O .frames) (O .opens))))
+module _ (b o : List ℕ) (long : longestReel ≤ length o) where
+  -- the replay into a buffer for every reel is refused only as the book is
+  replayed : (fs : List (List ℕ)) → opened ours b ≡ holds fs
+      → replayOn o (roomOf ours (length b)) fs
+      ≡ record { answer = Done (length (reelOf fs)); output = reelOf fs ++ drop (length (reelOf fs)) o; frames = fs }
+  unfolding replayOn
+  replayed fs h = rw (le-leb (length (reelOf fs)) (length o) (omega (arith, replay-most ours b fs h)))
 
-    pub replay-refused : (a : Answer) (x : Refusal) → a ≡ call ours replayOn o b .answer → a ≡ Refused x → ⊥
-    unfolding call
-    replay-refused a x e z = done-refused (length (reelOf (O .frames))) x (sym (e ∙ rw (O .opens, replayed) refl) ∙ z)
+  pub replay-away : (t : OwnerTable) (w : ℕ) (out : List ℕ) (a : Answer) (x : Refusal) → a ≡ call ours replayOn o b .answer → a ≡ Refused x
+      → Gives ours (sideOn (ours .slots) t w Replay) out b a out b
+  unfolding call
+  replay-away t w out a x e z = go (opened ours b) refl e
+    where
+      go : (q : Contents) → opened ours b ≡ q → a ≡ onContents ours replayOn o b q .answer → Gives ours (sideOn (ours .slots) t w Replay) out b a out b
+      go (refused y) h r = turned-away ours (sideOn (ours .slots) t w Replay) out b a y (r ∙ ap verdict (sym h)) r
+      go (holds fs) h r = absurd (done-refused (length (reelOf fs)) x (sym (r ∙ rw (replayed fs h) refl) ∙ z))
 
-    pub replay-told : (a : Answer) (n : ℕ) (out : List ℕ) → a ≡ call ours replayOn o b .answer → out ≡ call ours replayOn o b .output → a ≡ Done n
-        → Replayed out n (O .frames)
-    unfolding call
-    replay-told a n out e f z =
-        let u : Done (length (reelOf (O .frames))) ≡ Done n = sym (e ∙ rw (O .opens, replayed) refl) ∙ z in
-        let m : n ≡ length (reelOf (O .frames)) = cc in
-        let k : n - 0 ≡ length (reelOf (O .frames)) = omega arith in
-        let g : out ≡ reelOf (O .frames) ++ drop (length (reelOf (O .frames))) o = f ∙ rw (O .opens, replayed) refl in
-        record {
-          reel = ap₂ (λ (i : ℕ) (x : List ℕ). take i x) k g ∙ take-append-seam (reelOf (O .frames)) (drop (length (reelOf (O .frames))) o);
-          fits = omega (arith, ap length g, length-append (reelOf (O .frames)) (drop (length (reelOf (O .frames))) o));
-        }
+  pub replay-told : (a : Answer) (n : ℕ) (out : List ℕ) → a ≡ call ours replayOn o b .answer → out ≡ call ours replayOn o b .output → a ≡ Done n
+      → Replayed b out n
+  unfolding call
+  replay-told a n out e f z = go (opened ours b) refl e f
+    where
+      go : (q : Contents) → opened ours b ≡ q → a ≡ onContents ours replayOn o b q .answer → out ≡ onContents ours replayOn o b q .output → Replayed b out n
+      go (refused y) h r s = absurd (done-refused n y (sym z ∙ r))
+      go (holds fs) h r s =
+          let u : Done (length (reelOf fs)) ≡ Done n = sym (r ∙ rw (replayed fs h) refl) ∙ z in
+          let m : n ≡ length (reelOf fs) = cc in
+          let k : n - 0 ≡ length (reelOf fs) = omega arith in
+          let g : out ≡ reelOf fs ++ drop (length (reelOf fs)) o = s ∙ rw (replayed fs h) refl in
+          record {
+            frames = fs;
+            opens = h;
+            reel = ap₂ (λ (i : ℕ) (x : List ℕ). take i x) k g ∙ take-append-seam (reelOf fs) (drop (length (reelOf fs)) o);
+            fits = omega (arith, ap length g, length-append (reelOf fs) (drop (length (reelOf fs)) o));
+          }
 
-  -- what is picked of it is the side's replay
-  pub replay-call : (o reel : List ℕ) (n : ℕ) → Replayed reel n (O .frames) → (a : Answer) (y : List ℕ)
-      → Retold (picked (owns (t .owners) w) (take (n - 0) reel)) o a y → Tells (sideCall ours t w Replay o b) a y
-  unfolding call barred replayOn picked
-  replay-call o reel n T a y g =
-      let part : picked (owns (t .owners) w) (take (n - 0) reel) ≡ reelOf (partOf t w (O .frames)) =
-      ap (picked (owns (t .owners) w)) (T .reel) ∙ ap (λ (u : Unreeled). reelOf (chosen (owns (t .owners) w) (u .frames))) (reel-whole (O .frames)) in
-      let e = side-step (ours .slots) t w (roomOf ours (length b)) (O .frames) (O .may) Replay o refl in
-      let k = tell-apart (reelOf (partOf t w (O .frames))) o (partOf t w (O .frames)) [] in (
-        g .0 ∙ ap (λ (x : List ℕ). tell x o [] .answer) part ∙ sym (k .0) ∙ sym (rw (O .opens, e) refl),
-        g .1 ∙ ap (λ (x : List ℕ). tell x o [] .output) part ∙ sym (k .1) ∙ sym (rw (O .opens, e) refl),
-      )
+-- what is picked of it is the side's replay
+pub replay-call : (t : OwnerTable) (w : ℕ) (b : List ℕ) (O : Open t w b) (o reel : List ℕ) (n : ℕ) → take (n - 0) reel ≡ reelOf (O .frames)
+    → (a : Answer) (y : List ℕ) → Retold (picked (owns (t .owners) w) (take (n - 0) reel)) o a y → Tells (sideCall ours t w Replay o b) a y
+unfolding call barred replayOn picked
+replay-call t w b O o reel n r a y g =
+    let part : picked (owns (t .owners) w) (take (n - 0) reel) ≡ reelOf (partOf t w (O .frames)) =
+    ap (picked (owns (t .owners) w)) r ∙ ap (λ (u : Unreeled). reelOf (chosen (owns (t .owners) w) (u .frames))) (reel-whole (O .frames)) in
+    let e = side-step (ours .slots) t w (roomOf ours (length b)) (O .frames) (O .may) Replay o refl in
+    let k = tell-apart (reelOf (partOf t w (O .frames))) o (partOf t w (O .frames)) [] in (
+      g .0 ∙ ap (λ (x : List ℕ). tell x o [] .answer) part ∙ sym (k .0) ∙ sym (rw (O .opens, e) refl),
+      g .1 ∙ ap (λ (x : List ℕ). tell x o [] .output) part ∙ sym (k .1) ∙ sym (rw (O .opens, e) refl),
+    )

@@ -2,7 +2,7 @@ pub mod Parts
 pub mod Views
 pub mod Quotas
 pub mod Means
-pub mod Weights
+pub mod Weighing
 pub mod Calling
 pub mod Picking
 pub mod Keeps

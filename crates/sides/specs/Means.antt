@@ -1,38 +1,44 @@
--- The code's own notions: a side's bytes as a header tells them, what is read before a call, and a clear made of the book's removals.
+-- The code's own notions: a side's bytes as a header tells them, a refusal that comes behind the book's own, a clear made of the book's removals,
+-- and a part of a reel.
 -- Assumes nothing.
 use Prim.Native.Nat.{ℕ, zero, suc, _+_, _-_}
 use mathlib.Core.Path.{_≡_}
 use mathlib.Core.Bool.{Bool, cond, _&&_}
 use mathlib.Core.List.{List, []}
-use Rattle.refusal.specs.declared.Refusal.the-variants.{OwnersWrong}
+use lib.Dec.{leb}
+use Rattle.refusal.specs.declared.Refusal.{Refusal}
 use Rattle.table.specs.Table.{settings}
 use Rattle.settings.specs.Settings.{sizeOf, slotFor}
 use Rattle.contents.specs.Contents.{Contents, Layout, holds, presentAt, refused}
 use Rattle.forms.specs.Forms.{other}
-use Rattle.owners.specs.Owners.{OwnerTable, owns}
+use Rattle.owners.specs.Owners.{OwnerTable, isSide, owns, tableRight}
 use Rattle.reel.specs.Reel.{reelOf, unreel}
 use Rattle.book.specs.declared.Answer.{Answer}
-use Rattle.book.specs.declared.Answer.the-variants.{Done, Refused}
+use Rattle.book.specs.declared.Answer.the-variants.{Refused}
 use Rattle.book.specs.Plain.{removeOn, tell}
 use Rattle.book.specs.Book.{call}
-use Rattle.sides.specs.Parts.{chosen, partOf}
-use Rattle.sides.specs.Calls.{mayCall}
+use Rattle.sides.specs.Parts.{chosen}
 
 -- the bytes that the frames of the n slots from s on have, of those that are present and pass a test
 unfoldable pub weightFrom : ℕ → (ℕ → Bool) → List ℕ → ℕ → ℕ
 weightFrom zero q b s = 0
 weightFrom (suc n) q b s = cond (presentAt b s && q s) (sizeOf s) 0 + weightFrom n q b (s + 1)
 
--- the same for a side once n bytes are put to a slot: in the place of that slot's frame, which is as long, or of its other form's, or behind all
-unfoldable pub weightAfter : List ℕ → List ℕ → ℕ → ℕ → ℕ → ℕ
-weightAfter b ws w s n =
-    cond (presentAt b s) (weightFrom settings (owns ws w) b 0)
-    (cond (presentAt b (other s)) (weightFrom settings (owns ws w) b 0 - sizeOf (other s) + n) (weightFrom settings (owns ws w) b 0 + n))
+-- how many a side has that has held so many, once n bytes are put to a slot: in the place of that slot's frame, which is as long, or of its other
+-- form's, or behind all
+unfoldable pub weightAfter : List ℕ → ℕ → ℕ → ℕ → ℕ
+weightAfter b s held n = cond (presentAt b s) held (cond (presentAt b (other s)) (held - sizeOf (other s) + n) (held + n))
 
--- whether a side may call: the book's own refusals come first
-abbrev pub admission : ℕ → OwnerTable → ℕ → ℕ → Contents → Answer
-admission m t w room (refused x) = Refused x
-admission m t w room (holds fs) = cond (mayCall m t w room (partOf t 1 fs) (partOf t 2 fs)) (Done 0) (Refused OwnersWrong)
+-- whether a side may call, as a header tells; of bytes that are no book it says nothing
+unfoldable pub mayRead : ℕ → OwnerTable → ℕ → ℕ → List ℕ → Bool
+mayRead m t w room b =
+    tableRight m room t
+    && (isSide w && (leb (weightFrom settings (owns (t .owners) 1) b 0) (t .quota1) && leb (weightFrom settings (owns (t .owners) 2) b 0) (t .quota2)))
+
+-- a refusal, unless the book has one of its own
+abbrev pub unless : Refusal → Contents → Answer
+unless why (refused x) = Refused x
+unless why (holds fs) = Refused why
 
 -- ---- a clear
 

@@ -4,7 +4,8 @@
 ghost use mathlib.Core.Path.{_≡_};
 ghost use mathlib.Core.Bool.{cond, _&&_};
 ghost use mathlib.Core.List.{[]};
-ghost use Prim.Native.Nat.{_+_, _≤_, _<_};
+ghost use Prim.Native.Nat.{_+_, _≤_};
+ghost use lib.Dec.{eqb};
 ghost use lib.ListN.{length, take};
 ghost use Rattle.table.specs.Table.{kinds, settings};
 ghost use Rattle.settings.specs.Settings.{sizeOf, slotFor};
@@ -15,7 +16,7 @@ ghost use Rattle.book.specs.Plain.{removeOn};
 ghost use Rattle.book.specs.Book.{call, opened, ours, Permits, Tells};
 ghost use Rattle.sides.specs.Calls.{Request, foreign};
 ghost use Rattle.sides.specs.Histories.{afterEvent, by};
-ghost use Rattle.sides.specs.Means.{admission, emptiedBytes, longestReel, picked, Retold, weightAfter, weightFrom};
+ghost use Rattle.sides.specs.Means.{emptiedBytes, longestReel, mayRead, picked, Retold, unless, weightAfter, weightFrom};
 use book::Answer;
 use owners::owner_of;
 use reel::Cursor;
@@ -29,52 +30,106 @@ const LONGEST_REEL: usize = 195;
 
 // ---- whether a side may call
 
-// How many bytes the frame of a slot has, if the header has one there and it is the side's: a slot's frames are all of one length.
-fn slot_weight(book: &[u8], owners: &[u8], side: u64, slot: usize) -> usize
-    ensures { λ r. ⌜ (r ≡ cond (presentAt (now (book .entry)) slot && owns (now (owners .entry)) side slot) (sizeOf slot) 0) × (r ≤ 12) ⌝ }
+// How many bytes the frames of each side have.
+struct Weights {
+    first: usize,
+    second: usize,
+}
+
+// The same of one slot: its frames are all of one length, so a header that has an offset for it tells.
+fn slot_weights(book: &[u8], owners: &[u8], slot: usize) -> Weights
+    ensures { λ r. ⌜ (r .first ≡ cond (presentAt (now (book .entry)) slot && owns (now (owners .entry)) 1 slot) (sizeOf slot) 0) × (r .first ≤ 12) ⌝ }
+    ensures { λ r. ⌜ (r .second ≡ cond (presentAt (now (book .entry)) slot && owns (now (owners .entry)) 2 slot) (sizeOf slot) 0) × (r .second ≤ 12) ⌝ }
 {
     if contents::offset(book, slot) == 0 {
-        return 0;
+        return Weights {
+            first: 0,
+            second: 0,
+        };
     }
-    if owner_of(owners, slot) == side {
-        return size_of(slot);
+    let side = owner_of(owners, slot);
+    let n = size_of(slot);
+    if side == 1 {
+        return Weights {
+            first: n,
+            second: 0,
+        };
     }
-    0
+    if side == 2 {
+        return Weights {
+            first: 0,
+            second: n,
+        };
+    }
+    Weights {
+        first: 0,
+        second: 0,
+    }
 }
 
-// How many bytes the frames of a side have, as a sound book's header tells.
-fn weight(book: &[u8], owners: &[u8], side: u64) -> usize
-    ensures { λ r. ⌜ (r ≡ weightFrom settings (owns (now (owners .entry)) side) (now (book .entry)) 0) × (r ≤ 348) ⌝ }
+// What a sound book's header tells of both sides, in one pass.
+fn weigh(book: &[u8], owners: &[u8]) -> Weights
+    ensures { λ r. ⌜ (r .first ≡ weightFrom settings (owns (now (owners .entry)) 1) (now (book .entry)) 0) × (r .first ≤ 348) ⌝ }
+    ensures { λ r. ⌜ (r .second ≡ weightFrom settings (owns (now (owners .entry)) 2) (now (book .entry)) 0) × (r .second ≤ 348) ⌝ }
 {
-    let mut sum: usize = 0;
+    let mut first: usize = 0;
+    let mut second: usize = 0;
     let mut s: usize = 0;
     while s < table::SETTINGS {
-        sum += slot_weight(book, owners, side, s);
+        let more = slot_weights(book, owners, s);
+        first += more.first;
+        second += more.second;
         s += 1;
     }
-    sum
+    Weights { first, second }
 }
 
-// Every refusal that comes before a side's own: the book's, then whatever is wrong with the table, the caller or the quotas.
-fn admit(book: &[u8], owners: &[u8], quota1: u64, quota2: u64, caller: u64) -> Answer
-    ensures { λ r. ⌜ r ≡ admission (ours .slots) (ownerTable (now (owners .entry)) quota1 quota2) caller (roomOf ours (length (now (book .entry))))
-        (opened ours (now (book .entry))) ⌝ }
+fn of_side(both: Weights, side: u64) -> usize
+    ensures { λ r. ⌜ r ≡ cond (eqb side 1) (both .first) (both .second) ⌝ }
+{
+    if side == 1 {
+        return both.first;
+    }
+    both.second
+}
+
+// How many bytes of frames a buffer of that length has room for.
+fn room_in(len: usize) -> u64
+    ensures { λ r. ⌜ r ≡ roomOf ours len ⌝ }
+{
+    if len < book::START {
+        return 0;
+    }
+    (len - book::START) as u64
+}
+
+// Whether nothing is wrong with the table, the caller and the quotas, as the header tells: the book's own call judges the rest, so it is read once.
+fn may_call(book: &[u8], owners: &[u8], quota1: u64, quota2: u64, caller: u64) -> bool
+    ensures { λ r. ⌜ r ≡ mayRead (ours .slots) (ownerTable (now (owners .entry)) quota1 quota2) caller (roomOf ours (length (now (book .entry))))
+        (now (book .entry)) ⌝ }
+{
+    if owners::is_right(owners, book::SLOTS, room_in(book.len()), quota1, quota2) {
+        if owners::is_side(caller) {
+            let held = weigh(book, owners);
+            if held.first as u64 <= quota1 {
+                return held.second as u64 <= quota2;
+            }
+            return false;
+        }
+        return false;
+    }
+    false
+}
+
+// A refusal of a side's own: the book's come first.
+fn refused(book: &[u8], why: Refusal) -> Answer
+    ensures { λ r. ⌜ r ≡ unless why (opened ours (now (book .entry))) ⌝ }
 {
     let found = book::ready(book);
     let Answer::Done(_) = found else {
         return found;
     };
-    let room = (book.len() - book::START) as u64;
-    if owners::is_right(owners, book::SLOTS, room, quota1, quota2) {
-        if owners::is_side(caller) {
-            if weight(book, owners, 1) as u64 <= quota1 {
-                if weight(book, owners, 2) as u64 <= quota2 {
-                    return Answer::Done(0);
-                }
-            }
-        }
-    }
-    Answer::Refused(Refusal::OwnersWrong)
+    Answer::Refused(why)
 }
 
 // Whether a slot is a setting's that is not the side's.
@@ -90,11 +145,10 @@ fn is_foreign(owners: &[u8], side: u64, slot: usize) -> bool
 // ---- put, remove and ask: past a side's own refusals they are the book's
 
 // How many bytes the frames of a side have once n bytes are put to a slot of its own: they may take the place of either form.
-fn weight_after(book: &[u8], owners: &[u8], side: u64, slot: usize, n: usize) -> usize
-    requires { ⌜ n ≤ 255 ⌝ }
-    ensures { λ r. ⌜ r ≡ weightAfter (now (book .entry)) (now (owners .entry)) side slot n ⌝ }
+fn weight_after(book: &[u8], slot: usize, held: usize, n: usize) -> usize
+    requires { ⌜ (held ≤ 348) × (n ≤ 255) ⌝ }
+    ensures { λ r. ⌜ r ≡ weightAfter (now (book .entry)) slot held n ⌝ }
 {
-    let held = weight(book, owners, side);
     if contents::offset(book, slot) != 0 {
         return held;
     }
@@ -122,23 +176,23 @@ pub fn put(
         (now (book .entry)))
         r (now (book .exit)) ⌝ }
 {
-    let may = admit(book, owners, quota1, quota2, caller);
-    let Answer::Done(_) = may else {
-        return may;
-    };
-    let slot = settings::slot_of(frame);
-    if is_foreign(owners, caller, slot) {
-        return Answer::Refused(Refusal::OtherSide);
-    }
-    if slot < table::SETTINGS {
-        if weight_after(book, owners, caller, slot, frame.len()) as u64
-            <= owners::quota_of(quota1, quota2, caller)
-        {
-            return book::put(book, frame);
+    if may_call(book, owners, quota1, quota2, caller) {
+        let slot = settings::slot_of(frame);
+        if is_foreign(owners, caller, slot) {
+            return refused(book, Refusal::OtherSide);
         }
-        return Answer::Refused(Refusal::NoRoom);
+        if slot < table::SETTINGS {
+            let held = of_side(weigh(book, owners), caller);
+            if weight_after(book, slot, held, frame.len()) as u64
+                <= owners::quota_of(quota1, quota2, caller)
+            {
+                return book::put(book, frame);
+            }
+            return refused(book, Refusal::NoRoom);
+        }
+        return book::put(book, frame);
     }
-    book::put(book, frame)
+    refused(book, Refusal::OwnersWrong)
 }
 
 // A side's removal of a kind.
@@ -153,14 +207,13 @@ pub fn remove(
     ensures { λ r. ⌜ Permits (afterEvent ours (ownerTable (now (owners .entry)) quota1 quota2) (by caller (Request.Remove kind) []) (now (book .entry)))
         r (now (book .exit)) ⌝ }
 {
-    let may = admit(book, owners, quota1, quota2, caller);
-    let Answer::Done(_) = may else {
-        return may;
-    };
-    if is_foreign(owners, caller, slot_for(kind)) {
-        return Answer::Refused(Refusal::OtherSide);
+    if may_call(book, owners, quota1, quota2, caller) {
+        if is_foreign(owners, caller, slot_for(kind)) {
+            return refused(book, Refusal::OtherSide);
+        }
+        return book::remove(book, kind);
     }
-    book::remove(book, kind)
+    refused(book, Refusal::OwnersWrong)
 }
 
 // A side's question for a kind's frame.
@@ -177,14 +230,13 @@ pub fn ask(
         (now (book .entry)))
         r (now (out .exit)) ⌝ }
 {
-    let may = admit(book, owners, quota1, quota2, caller);
-    let Answer::Done(_) = may else {
-        return may;
-    };
-    if is_foreign(owners, caller, slot_for(kind)) {
-        return Answer::Refused(Refusal::OtherSide);
+    if may_call(book, owners, quota1, quota2, caller) {
+        if is_foreign(owners, caller, slot_for(kind)) {
+            return refused(book, Refusal::OtherSide);
+        }
+        return book::ask(book, kind, out);
     }
-    book::ask(book, kind, out)
+    refused(book, Refusal::OwnersWrong)
 }
 
 // ---- clear
@@ -218,12 +270,15 @@ pub fn clear(book: &mut [u8], owners: &[u8], quota1: u64, quota2: u64, caller: u
     ensures { λ r. ⌜ Permits (afterEvent ours (ownerTable (now (owners .entry)) quota1 quota2) (by caller Request.Clear []) (now (book .entry)))
         r (now (book .exit)) ⌝ }
 {
-    let may = admit(book, owners, quota1, quota2, caller);
-    let Answer::Done(_) = may else {
-        return may;
+    let found = book::ready(book);
+    let Answer::Done(_) = found else {
+        return found;
     };
-    take_all_out(book, owners, caller);
-    Answer::Done(0)
+    if may_call(book, owners, quota1, quota2, caller) {
+        take_all_out(book, owners, caller);
+        return Answer::Done(0);
+    }
+    Answer::Refused(Refusal::OwnersWrong)
 }
 
 // ---- replay
@@ -290,14 +345,13 @@ pub fn replay(
     ensures { λ r. ⌜ Tells (afterEvent ours (ownerTable (now (owners .entry)) quota1 quota2) (by caller Request.Replay (now (out .entry))) (now (book .entry)))
         r (now (out .exit)) ⌝ }
 {
-    let may = admit(book, owners, quota1, quota2, caller);
-    let Answer::Done(_) = may else {
-        return may;
-    };
-    let mut reel = [0u8; LONGEST_REEL];
-    let told = book::replay(book, &mut reel);
-    let Answer::Done(n) = told else {
-        return told;
-    };
-    tell_part(owners, caller, &reel[0..n], out)
+    if may_call(book, owners, quota1, quota2, caller) {
+        let mut reel = [0u8; LONGEST_REEL];
+        let told = book::replay(book, &mut reel);
+        let Answer::Done(n) = told else {
+            return told;
+        };
+        return tell_part(owners, caller, &reel[0..n], out);
+    }
+    refused(book, Refusal::OwnersWrong)
 }

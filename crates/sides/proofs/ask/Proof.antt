@@ -1,43 +1,41 @@
+use mathlib.Core.Path.{sym, _∙_}
 use borrow.Author.Needs.{needs}
 use denote.Ref.{now}
 use Rattle.contents.proofs.Judged.{Bytes}
-use Rattle.owners.specs.Owners.{ownerTable}
 use Rattle.book.specs.Book.{ours}
 use Rattle.book.proofs.Calls.{tells}
-use Rattle.sides.proofs.Calling.{Open, admit-open, ask-call, barred-away, foreign-named, tells-same, turned-back}
+use Rattle.sides.proofs.Calling.{ask-call, barred-away, foreign-named, tells-same, wrong-away}
 use Rattle.sides.proofs.ask.Statement.{statement}
 use Rattle.sides.proofs.ask.Tie as tie
 
-bytes : (c : tie.After-admit) → Bytes (now (c .before .before .before .before .args .book))
+bytes : (c : tie.After-may-call) → Bytes (now (c .before .before .before .before .args .book))
 bytes c = λ i. c .before .before .before .shared-slice-known .given i .fits
 
--- the side may call
-entered : (c : tie.After-slot-for)
-    → let a = c .before .before .before .before .before .before .before .args in Open (ownerTable (now (a .owners)) (a .quota1) (a .quota2)) (a .caller)
-    (now (a .book))
-entered c = let g = c .before .before .before in admit-open _ _ _ _ _ (g .admit .ensures) (c .before .enum-told .given .1)
-
 returns : tie.Need-returns
-returns c = let g = c .before .before in tells ours _ _ _ _ _ _ (turned-back _ _ _ (bytes g) _ _ _ _ (g .admit .ensures) (c .enum-told2 .given .1))
+returns c =
+    let f = c .before .before in
+    let m = f .before .before .before in
+    tells ours _ _ _ _ _ _
+    (barred-away _ _ _ (bytes m) (sym (m .may-call .ensures) ∙ f .before .before .if1 .taken) _ _
+    (foreign-named _ _ _ _ _ (f .is-foreign .ensures) (c .before .if2 .taken) _ (f .before .slot-for .ensures)) _ (c .refused .ensures))
 
 returns-2 : tie.Need-returns-2
 returns-2 c =
-    let s = c .before .before in
-    tells ours _ _ _ _ _ _
-    (barred-away _ _ _ (bytes (s .before .before .before)) (entered s) _ _
-    (foreign-named _ _ _ _ _ (c .before .is-foreign .ensures) (c .if1 .taken) _ (s .slot-for .ensures)))
+    let f = c .before .before .before .before .before in
+    let m = f .before .before .before in
+    tells-same _ _ _ _
+    (ask-call _ _ _ (bytes m) (sym (m .may-call .ensures) ∙ f .before .before .if1 .taken) _ _
+    (foreign-named _ _ _ _ _ (f .is-foreign .ensures) (c .before .before .before .before .if2 .left) _ (f .before .slot-for .ensures)))
+    (c .before .before .ask .ensures)
 
 returns-3 : tie.Need-returns-3
 returns-3 c =
-    let e = c .before .before .before .before in
-    let s = e .before .before in
-    tells-same _ _ _ _
-    (ask-call _ _ _ (bytes (s .before .before .before)) (entered s) _ _
-    (foreign-named _ _ _ _ _ (e .before .is-foreign .ensures) (e .if1 .left) _ (s .slot-for .ensures)))
-    (c .before .before .ask .ensures)
+    let m = c .before .before in
+    tells ours _ _ _ _ _ _ (wrong-away _ _ _ (bytes m) (sym (m .may-call .ensures) ∙ c .before .if1 .left) _ _ _ (c .refused2 .ensures))
 
 pub ask-spec : {M : Type 1} → statement M
 ask-spec =
     tie.close
-    (tie.spec (λ c κs. search needs) (search needs) (search needs) returns (λ c κs. search needs) (λ c κs. search needs) returns-2 (λ c κs. search needs)
-    (search needs) returns-3)
+    (tie.spec (λ c κs. search needs) (λ c κs. search needs) (λ c κs. search needs) (λ c κs. search needs) returns (λ c κs. search needs)
+    (search needs) returns-2
+    (λ c κs. search needs) returns-3)

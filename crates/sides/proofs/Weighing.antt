@@ -2,11 +2,12 @@
 -- slot by slot, in the code's own terms (`weight-..`).
 -- Assumes nothing.
 use mathlib.Core.Path.{ap, ap₂, refl, sym, _∙_, _≡_}
-use mathlib.Core.Bool.{Bool, cond, true, _&&_}
+use mathlib.Core.Bool.{Bool, cond, false, true, _&&_}
 use mathlib.Core.List.{List, [], _++_, _∷_}
 use Prim.Native.Nat.{suc, zero, ℕ, _+_, _-_, _<_, _≤_}
 use native.Mathlib.Omega.{arith}
 use borrow.Author.Tests.{eq-eqb, ne-eqb}
+use lib.Dec.{eqb}
 use lib.ListN.{length, length-append}
 use Rattle.table.specs.Table.{settings}
 use Rattle.settings.specs.Settings.{sizeOf, slotOf}
@@ -17,7 +18,7 @@ use Rattle.contents.proofs.Shape.{Sound, place-in, sum-held, sumFrom}
 use Rattle.contents.proofs.Loops.{minus-end, minus-step}
 use Rattle.forms.specs.Forms.{other}
 use Rattle.forms.proofs.Forms.{other-low}
-use Rattle.owners.specs.Owners.{OwnerTable, ownerOf, owns}
+use Rattle.owners.specs.Owners.{OwnerTable, isSide, ownerOf, owns}
 use Rattle.book.specs.Plain.{placed}
 use Rattle.book.specs.Book.{opened}
 use Rattle.book.proofs.Calls.{opened-judge, present-held}
@@ -28,6 +29,7 @@ use Rattle.book.proofs.Swapping.{swap-room}
 use Rattle.sides.specs.Parts.{chosen, partOf}
 use Rattle.sides.specs.Means.{weightAfter, weightFrom}
 use Rattle.sides.proofs.Parts.{held-both, held-chosen, sound-chosen}
+use Rattle.sides.proofs.Quotas.{by-side}
 
 -- ---- the sum, slot by slot
 
@@ -54,25 +56,39 @@ module _ (b ws : List ℕ) (w k : ℕ) where
     unfolding owns
     slot-foreign e = sym (rw (ne-eqb (offsetAt b k) 0 o, ne-eqb (ownerOf ws k) w e))
 
+-- a side's weight, of both
+pub side-few : (w a b : ℕ) → a ≤ 348 → b ≤ 348 → cond (eqb w 1) a b ≤ 348
+side-few w a b p q = go (eqb w 1)
+  where
+    go : (x : Bool) → cond x a b ≤ 348
+    go true = p
+    go false = q
+
+pub side-weight : (b ws : List ℕ) (w : ℕ) → isSide w ≡ true
+    → cond (eqb w 1) (weightFrom settings (owns ws 1) b 0) (weightFrom settings (owns ws 2) b 0) ≡ weightFrom settings (owns ws w) b 0
+side-weight b ws w e =
+    by-side (λ v. cond (eqb v 1) (weightFrom settings (owns ws 1) b 0) (weightFrom settings (owns ws 2) b 0)
+    ≡ weightFrom settings (owns ws v) b 0) refl refl w e
+
 -- after a put
-module _ (b ws : List ℕ) (w s n r : ℕ) (h : r ≡ weightFrom settings (owns ws w) b 0) where
-  pub after-over : (offsetAt b s ≡ 0 → ⊥) → r ≡ weightAfter b ws w s n
+module _ (b : List ℕ) (s held n : ℕ) where
+  pub after-over : (offsetAt b s ≡ 0 → ⊥) → held ≡ weightAfter b s held n
   unfolding weightAfter
-  after-over o = h ∙ sym (rw (ne-eqb (offsetAt b s) 0 o))
+  after-over o = sym (rw (ne-eqb (offsetAt b s) 0 o))
 
   module _ (z : offsetAt b s ≡ 0) (t : ℕ) (e : t ≡ other s) where
-    pub after-last : offsetAt b t ≡ 0 → r + n ≡ weightAfter b ws w s n
+    pub after-last : offsetAt b t ≡ 0 → held + n ≡ weightAfter b s held n
     unfolding weightAfter
-    after-last o = ap (λ (x : ℕ). x + n) h ∙ sym (rw (eq-eqb (offsetAt b s) 0 z, eq-eqb (offsetAt b (other s)) 0 (ap (offsetAt b) (sym e) ∙ o)))
+    after-last o = sym (rw (eq-eqb (offsetAt b s) 0 z, eq-eqb (offsetAt b (other s)) 0 (ap (offsetAt b) (sym e) ∙ o)))
 
-    pub after-swap : (offsetAt b t ≡ 0 → ⊥) → (k : ℕ) → k ≡ sizeOf t → r - k + n ≡ weightAfter b ws w s n
+    pub after-swap : (offsetAt b t ≡ 0 → ⊥) → (k : ℕ) → k ≡ sizeOf t → held - k + n ≡ weightAfter b s held n
     unfolding weightAfter
     after-swap o k q =
-        ap₂ (λ (x y : ℕ). x - y + n) h (q ∙ ap sizeOf e)
+        ap (λ (x : ℕ). held - x + n) (q ∙ ap sizeOf e)
         ∙ sym (rw (eq-eqb (offsetAt b s) 0 z, ne-eqb (offsetAt b (other s)) 0 (λ y. o (ap (offsetAt b) e ∙ y))))
 
-    pub after-less : (offsetAt b t ≡ 0 → ⊥) → (k : ℕ) → k ≡ sizeOf t → r < k → n ≡ weightAfter b ws w s n
-    after-less o k q l = let d : n ≡ r - k + n = omega arith in d ∙ after-swap o k q
+    pub after-less : (offsetAt b t ≡ 0 → ⊥) → (k : ℕ) → k ≡ sizeOf t → held < k → n ≡ weightAfter b s held n
+    after-less o k q l = let d : n ≡ held - k + n = omega arith in d ∙ after-swap o k q
 
 -- ---- a book's frames
 
@@ -97,30 +113,20 @@ module _ (l : Layout) (big : settings ≤ l .slots) (b : List ℕ) (fs : List (L
     present : (s : ℕ) → s < settings → owns (t .owners) w s ≡ true → presentAt b s ≡ held s (partOf t w fs)
     present s c e = present-held l b fs (opened-judge l b fs h) s (omega arith) ∙ sym (held-chosen (owns (t .owners) w) s e fs)
 
-    weighs : weightFrom settings (owns (t .owners) w) b 0 ≡ length (flat (partOf t w fs))
-    weighs = weight-is (owns (t .owners) w)
-
-    pub weight-placed : weightAfter b (t .owners) w (slotOf f) (length f) ≡ length (flat (placed f (partOf t w fs)))
+    pub weight-placed : weightAfter b (slotOf f) (length (flat (partOf t w fs))) (length f) ≡ length (flat (placed f (partOf t w fs)))
     unfolding weightAfter flat
     weight-placed =
-        by-place f (partOf t w fs) (λ gs. weightAfter b (t .owners) w (slotOf f) (length f) ≡ length (flat gs))
+        by-place f (partOf t w fs) (λ gs. weightAfter b (slotOf f) (length (flat (partOf t w fs))) (length f) ≡ length (flat gs))
         (λ x.
         rw (present (slotOf f) a own, x)
-        (omega (
-          arith,
-          weighs,
-          swap-room (slotOf f) f (partOf t w fs) S x,
-          slotOf-length f a,
-          place-in 0 (partOf t w fs) (slotOf f) S x,
-        )))
+        (omega (arith, swap-room (slotOf f) f (partOf t w fs) S x, slotOf-length f a, place-in 0 (partOf t w fs) (slotOf f) S x)))
         (λ x y.
         rw (present (slotOf f) a own, x, present (other (slotOf f)) (other-low (slotOf f) a) twin, y)
-        (ap (λ (n : ℕ). n - sizeOf (other (slotOf f)) + length f) weighs ∙ sym (swap-room (other (slotOf f)) f (partOf t w fs) S y)))
+        (sym (swap-room (other (slotOf f)) f (partOf t w fs) S y)))
         (λ x y.
         rw (present (slotOf f) a own, x, present (other (slotOf f)) (other-low (slotOf f) a) twin, y)
         (omega (
           arith,
-          weighs,
           ap length (flat-split (partOf t w fs) (f ∷ [])),
           length-append (flat (partOf t w fs)) (f ++ []),
           length-append f [],
