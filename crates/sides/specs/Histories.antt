@@ -53,7 +53,7 @@ heardOf x = record { answer = x .answer; output = x .output }
 
 -- the slots and the room of the book, and the table, which stays the same for its life
 module _ (m room : ℕ) (t : OwnerTable) where
-  -- what it makes of the joint list
+  -- what an event makes of the joint list
   abbrev pub jointly : Event → List (List ℕ) → Turn
   jointly (Side c) fs = sideOn m t (c .who) (c .what) (c .output) room fs
   jointly (Whole c) fs = turn room c fs
