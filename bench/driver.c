@@ -1,6 +1,7 @@
 // Calls the port (hb_..) and the Rust (rs_..) on the same arguments in one process, checks that both answer the same, and prints for each
 // builder, each reader and each row of the decoder the ratio of their times: the median over REPEATS, and the least and the greatest.
-// bench/generate.py fills the gaps, and bench/book.c has the book, bench/sides.c its two sides, bench/play.c the playback.
+// bench/generate.py fills the gaps, and bench/book.c has the book, bench/sides.c its two sides, bench/play.c the playback,
+// bench/widths.c the widths for banks.
 typedef unsigned char u8;
 typedef unsigned long u64;
 typedef struct { long sec, nsec; } timespec;
@@ -201,6 +202,7 @@ static void decoders(void) {
 #include "../../bench/book.c"
 #include "../../bench/sides.c"
 #include "../../bench/play.c"
+#include "../../bench/widths.c"
 
 static void compare_builder(const builder *b) {
     double ratios[REPEATS], hb = 1e18, rs = 1e18;
@@ -236,8 +238,8 @@ static void readers(void) {
     for (u64 k = 0; k < sizeof readings / sizeof *readings; k++) compare_reader(&readings[k]);
 }
 
-// With a word, the readers, the decoder, the book, the playback or the sides alone; its first letter tells which. The sides, which are compared
-// with no Rust, come by their word only.
+// With a word, the readers, the decoder, the book, the playback, the widths or the sides alone; its first letter tells which. The sides, which are
+// compared with no Rust, come by their word only.
 int main(int count, char **words) {
     char only = count > 1 ? words[1][0] : 0;
     for (int i = 0; i < SETS + BYTES; i++) bytes[i] = next();
@@ -247,6 +249,7 @@ int main(int count, char **words) {
     if (!only || only == 'd') decoders();
     if (!only || only == 'b') books();
     if (!only || only == 'p') plays();
+    if (!only || only == 'w') widths();
     if (only == 's') sides();
     return 0;
 }

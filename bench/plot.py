@@ -8,14 +8,14 @@ import math
 import sys
 from xml.sax.saxutils import escape
 
-GROUPS = [("builders", "#3465a4"), ("readers", "#4e9a06"), ("decoder", "#a40000"), ("book", "#8f5902"), ("dump", "#5c3566")]
+GROUPS = [("builders", "#3465a4"), ("readers", "#4e9a06"), ("decoder", "#a40000"), ("book", "#8f5902"), ("dump", "#5c3566"), ("widths", "#c4a000")]
 LEFT, WIDTH, RIGHT, ROW, TOP = 360, 400, 40, 13, 44
 
 
 def group(name):
     if name[0].isdigit():
         return 0
-    for i, start in ((2, "decode"), (3, "book"), (3, "empty book"), (3, "playback"), (4, "dump")):
+    for i, start in ((2, "decode"), (3, "book"), (3, "empty book"), (3, "playback"), (4, "dump"), (5, "widths")):
         if name.startswith(start):
             return i
     return 1
@@ -58,9 +58,9 @@ def plot(rows):
                       ratio))
     for i, (name, colour) in enumerate(GROUPS):
         out.append('<circle cx="%d" cy="%d" r="3" fill="%s"/><text x="%d" y="%d">%s</text>'
-                   % (LEFT + 80 * i, bottom + 25, colour, LEFT + 80 * i + 7, bottom + 28.5, name))
-    out.append('<text x="%d" y="%d">builders and readers: against the driver\'s own Rust; decoder, book and dump: against Rust that was '
-               'written for this</text>' % (8, bottom + 45))
+                   % (LEFT + 72 * i, bottom + 25, colour, LEFT + 72 * i + 7, bottom + 28.5, name))
+    out.append('<text x="%d" y="%d">builders and readers: against the driver\'s own Rust; decoder, book, dump and widths: against Rust that '
+               'was written for this</text>' % (8, bottom + 45))
     return "\n".join(out + ["</svg>"])
 
 

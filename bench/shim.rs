@@ -198,4 +198,19 @@ pub unsafe extern "C" fn rs_played(trace: *const u8, n: usize, book: *mut u8, m:
     mixed_day(&mut play::play(from_raw_parts(trace, n), from_raw_parts_mut(book, m)))
 }
 
+// ---- widths for banks, beside those found by hand
+
+#[path = "../../bench/widths.rs"]
+mod widths;
+
+#[no_mangle]
+pub unsafe extern "C" fn rs_find(needs: *const u64, n: usize, out: *mut u8, m: usize) -> u64 {
+    told(widths::find(from_raw_parts(needs, n), from_raw_parts_mut(out, m)))
+}
+
+#[no_mangle]
+pub unsafe extern "C" fn rs_check(needs: *const u64, n: usize, codes: *const u8, m: usize) -> u64 {
+    told(widths::check(from_raw_parts(needs, n), from_raw_parts(codes, m)))
+}
+
 // ---- builders

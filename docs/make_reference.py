@@ -96,6 +96,7 @@ def sizes(data):
         "HB_SNR_TEXT_MAX": max(len("-%d.%02d" % (n // 4, 25 * (n % 4))) for n in range(129)),
         "HB_DUMP_LINE_MAX": max([cut] + [line_length(data, k) for k in data["kinds"]]),
         "HB_DUMP_BYTE_MAX": cut,
+        "HB_BANKS_MAX": 32,
     }
 
 
@@ -229,7 +230,9 @@ def md_refusals(data):
 
 
 def md_order(data):
-    return ["Where several apply, the first of these is given: %s." % ", ".join(map(str, data["order"]))]
+    banks = data["order"].index(21)
+    said = [", ".join(map(str, part)) for part in (data["order"][:banks], data["order"][banks + 1:])]
+    return ["Where several apply, the first of these is given: %s; for a list of banks 21, and then, at the first bank that one of them applies to, %s." % tuple(said)]
 
 
 def md_calls(data):

@@ -1,5 +1,5 @@
 /* Hoardbutton for C: frames of the LR2021 radio, its status and responses, a settings book in a lent buffer, which two sides may share,
- * recorded days, reels and dumps.
+ * recorded days, the receive widths of banks, reels and dumps.
  *
  * Every function answers every input; none traps, allocates, keeps a pointer or touches a global, so all may be called from several threads
  * and from an interrupt at the same time, as long as no buffer is written by one call while another has it. A refusal is one of
@@ -36,12 +36,13 @@ extern "C" {
 #define HB_SNR_TEXT_MAX 6 /* bytes of the longest text of a ratio (-32.00) */
 #define HB_DUMP_LINE_MAX 64 /* bytes of the longest line of a dump with its newline (kind 6, an index of 20 digits) */
 #define HB_DUMP_BYTE_MAX 28 /* bytes of text at most for each byte of a reel (a cut frame of one byte, an index of 20 digits) */
+#define HB_BANKS_MAX 32 /* banks of the longest list of needs and codes */
 /* end: sizes */
 
 /* An output of so many bytes takes the dump of any reel of n bytes. */
 #define HB_DUMP_MAX(n) (HB_DUMP_BYTE_MAX * (n))
 
-/* ---- refusals: each with what it says; the place is 0 but for 4, 5, 6 and 15 */
+/* ---- refusals: each with what it says; the place is 0 but for 4, 5, 6, 15, 19 and 20 */
 
 /* from commands.json: refusals */
 #define HB_REFUSED_SHORT_FRAME 1 /* a frame has fewer than two bytes */
@@ -62,6 +63,9 @@ extern "C" {
 #define HB_REFUSED_BOTH_FORMS 16 /* the book holds a setting in both its forms */
 #define HB_REFUSED_OWNERS_WRONG 17 /* an owner table has not 29 entries, an owner or the caller is neither 1 nor 2, the two forms of a setting have two owners, the quotas together exceed the buffer's length less 62, or a side holds more than its quota */
 #define HB_REFUSED_OTHER_SIDE 18 /* the kind is the other side's */
+#define HB_REFUSED_NO_WIDTH 19 /* no listed width is at least the bank's need; place: the bank, from 1 */
+#define HB_REFUSED_NOT_NARROWEST 20 /* the code proposed for the bank is not the narrowest listed one whose width is at least its need; place: the bank, from 1 */
+#define HB_REFUSED_LIST_LENGTH 21 /* a list has not 1 to 32 banks, or the list of codes has another length */
 /* end: refusals */
 
 /* ---- kinds: each with its arguments in their order. A code is one of the constants named, a yes is 1 and a no is 0; hb_plain takes any
@@ -607,7 +611,7 @@ hb_decoded hb_decode(const uint8_t *frame, size_t len);
  * HB_BOOK_ALL bytes never lacks room. Where two kinds are one setting in two forms, as is said at their constants, a book holds one of the two;
  * bytes from elsewhere that hold both are refused by 16, by every call but hb_book_make. */
 
-/* A call's answer: value is the bytes written where a call writes, and else 0. */
+/* A call's answer: value is the bytes written where a call writes, and else 0; for a list of banks it is how many there are. */
 typedef struct hb_answer {
     uint32_t refusal, place;
     uint64_t value;
@@ -854,6 +858,20 @@ uint32_t hb_lora_bw_hz(uint8_t code);
 
 /* The name of a code HB_RX_BW_.. in tenths of kHz; 0 for a number that is none, and for HB_RX_BW_AUTO. Refuses nothing. */
 uint16_t hb_rx_bw_tenths(uint8_t code);
+
+/* ---- the receive widths of banks: for each bank a need in whole Hz, any number, and a code HB_RX_BW_... The exact width of a code is 40000000 Hz
+ * over m d 2^e, where m is 13, 14, 15 or 18 by its bits 7-6, d is its bits 5-3 plus 1, and e is its bits 2-0; its name decides nothing. A code is right
+ * for a need if it is listed and not HB_RX_BW_AUTO, its width is at least the need, and no listed width that is so is smaller: there is one, or
+ * none where the need is above 3076923. A list has 1 to HB_BANKS_MAX banks. */
+
+/* Whether each code is right for its bank's need; value is how many banks there are. 21 also where the lists differ in length. Then bank by bank,
+ * at the first such bank, which is the place: 19 where no listed width is at least its need, and else 20 where its code is not the right one.
+ * Refuses 21, 19, 20. */
+hb_answer hb_widths_check(const uint64_t *needs, size_t n, const uint8_t *codes, size_t m);
+
+/* Writes the right code for each bank's need; value is how many. hb_widths_check takes them, and takes no others. 21 also where codes has not the
+ * length of needs. Refuses 21, 19. */
+hb_answer hb_widths_find(const uint64_t *needs, size_t n, uint8_t *codes, size_t m);
 
 /* ---- reels: frames in a row, each behind a byte that says its length */
 

@@ -1,4 +1,4 @@
-"""A program as people call it: its options, messages and ways to name files, for dump-options and play-options."""
+"""A program as people call it: its options, messages and ways to name files, for dump-options, play-options and widths-options."""
 import os
 import resource
 import subprocess
@@ -9,15 +9,17 @@ from program import command
 
 GONE = "No such file or directory"
 LONG = "File name too long"
+FOLDER = "Is a directory"
+TOO_LONG = "a name of more than 4096 bytes"
 
 
 class Calls:
-    """Calls of a program, each held to what it should write."""
+    """Calls of a program, each held to what it should write; here those with one name at most."""
 
-    def __init__(self, program, files, shown, much):
+    def __init__(self, program, files, shown, much, limit=4096 + 5):
         """files: the bytes of each; one, two, -odd and empty are among them. shown: what the program writes for a list of names, of which some
-        cannot be opened and `folder` cannot be read, where `-` has each of a list of bytes in turn. much: names with more than a page of text."""
-        self.program, self.files, self.shown, self.much = program, files, shown, much
+        cannot be opened and `folder` cannot be read, where `-` has each of a list of bytes in turn. much: names with more text than the limit."""
+        self.program, self.files, self.shown, self.much, self.limit = program, files, shown, much, limit
         self.words = command(program)
         self.done = 0
 
@@ -47,11 +49,9 @@ class Calls:
         one = {"stdin": None, "input": self.files["one"]}
         for args in ([], ["-"], ["--"]):
             self.shows(args, names=["-"], **one)
-        self.shows(["two", "-", "-"], **one)
-        for names in (["one"], ["empty"], ["one", "two"]):
+        for names in (["one"], ["empty"]):
             self.shows(names)
         self.shows(["--", "-odd"], names=["-odd"])
-        self.shows(["one", "--", "-odd"], names=["one", "-odd"])
         for name in ("--", "--help"):
             self.shows(["--", name], self.cannot("open", name, GONE), names=[name])
 
@@ -70,26 +70,26 @@ class Calls:
     def unreadable(self):
         self.shows(["missing"], self.cannot("open", "missing", GONE))
         self.shows([""], self.cannot("open", "", GONE))
-        self.shows(["one", "missing", "two"], self.cannot("open", "missing", GONE))
-        for names in (["folder"], ["folder", "one"]):
-            self.shows(names, self.cannot("read", "folder", "Is a directory"))
-        self.holds(["-"], b"", self.cannot("read", "standard input", "Is a directory"), stdin=os.open("folder", os.O_RDONLY))
+        self.shows(["folder"], self.cannot("read", "folder", FOLDER))
+        self.holds(["-"], b"", self.cannot("read", "standard input", FOLDER), stdin=os.open("folder", os.O_RDONLY))
         self.shows(["x" * 4096], self.cannot("open", "x" * 4096, LONG))
-        for names in (["x" * 4097], ["x" * 4097, "one"]):
-            self.shows(names, self.cannot("open", "a name of more than 4096 bytes", LONG))
+        self.shows(["x" * 4097], self.cannot("open", TOO_LONG, LONG))
+
+    def full(self, args):
+        """The output takes nothing."""
+        with open("/dev/full", "wb") as full:
+            self.holds(args, None, self.cannot("write", "standard output", "No space left on device"), stdout=full)
 
     def unwritable(self):
         """A write that fails is said once, ends the run, and leaves the beginning of the text."""
-        for args in (["one"], ["one", "two"], ["--help"], ["--version"]):
-            with open("/dev/full", "wb") as full:
-                self.holds(args, None, self.cannot("write", "standard output", "No space left on device"), stdout=full)
-        limit = 4096 + 5
+        for args in (["one"], ["--help"], ["--version"]):
+            self.full(args)
         with open("cut", "w+b") as file:
-            small = lambda: resource.setrlimit(resource.RLIMIT_FSIZE, (limit, limit))
+            small = lambda: resource.setrlimit(resource.RLIMIT_FSIZE, (self.limit, self.limit))
             said = self.cannot("write", "standard output", "File too large")
             self.holds(self.much, None, said, stdout=file, preexec_fn=small, restore_signals=False)
             file.seek(0)
-            if file.read() != self.shown(self.much, [])[:limit]:
+            if file.read() != self.shown(self.much, [])[:self.limit]:
                 self.fail("a write that fails leaves something else than the beginning of the text")
 
     def all(self, wanted, *further):
@@ -107,3 +107,23 @@ class Calls:
         if self.done != wanted:
             self.fail("%d calls were made, not %d" % (self.done, wanted))
         print("%s-options: %d calls of %s write what they should" % (self.program, self.done, self.program))
+
+
+class ManyCalls(Calls):
+    """Calls of a program that takes several names."""
+
+    def names(self):
+        super().names()
+        self.shows(["two", "-", "-"], stdin=None, input=self.files["one"])
+        self.shows(["one", "two"])
+        self.shows(["one", "--", "-odd"], names=["one", "-odd"])
+
+    def unreadable(self):
+        super().unreadable()
+        self.shows(["one", "missing", "two"], self.cannot("open", "missing", GONE))
+        self.shows(["folder", "one"], self.cannot("read", "folder", FOLDER))
+        self.shows(["x" * 4097, "one"], self.cannot("open", TOO_LONG, LONG))
+
+    def unwritable(self):
+        super().unwritable()
+        self.full(["one", "two"])

@@ -83,6 +83,10 @@ functions! {
     counter_difference(earlier: u16, later: u16) -> u16 = hb_counter_difference(u16 = earlier, u16 = later);
     lora_bw_hz(code: u8) -> u32 = hb_lora_bw_hz(u8 = code);
     rx_bw_tenths(code: u8) -> u16 = hb_rx_bw_tenths(u8 = code);
+    widths_check(needs: &[u64], codes: &[u8]) -> Answer
+        = hb_widths_check(*const u64 = needs.as_ptr(), usize = needs.len(), *const u8 = codes.as_ptr(), usize = codes.len());
+    widths_find(needs: &[u64], codes: &mut [u8]) -> Answer
+        = hb_widths_find(*const u64 = needs.as_ptr(), usize = needs.len(), *mut u8 = codes.as_mut_ptr(), usize = codes.len());
     reel_step(r: &[u8], at: u64) -> Step = hb_reel_step(*const u8 = r.as_ptr(), usize = r.len(), u64 = at);
     dump(r: &[u8], out: &mut [u8]) -> Answer = hb_dump(*const u8 = r.as_ptr(), usize = r.len(), *mut u8 = out.as_mut_ptr(), usize = out.len());
     play(t: &[u8], b: &mut [u8]) -> Day = hb_play(*const u8 = t.as_ptr(), usize = t.len(), *mut u8 = b.as_mut_ptr(), usize = b.len());

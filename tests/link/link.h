@@ -22,6 +22,8 @@ void same_frame(hb_frame got, const char *frame, uint32_t refusal, uint32_t plac
 
 /* A random number; the seed is fixed, so every run is the same. */
 uint64_t any(void);
+/* The random number behind a state that a test has for itself, so that those of the other tests stay what they are. */
+uint64_t next_of(uint64_t *state);
 
 /* The bytes of a text as 02 2A, the numbers of a text as 7 12; and how many there are. */
 size_t hex(const char *text, uint8_t *to);
@@ -45,5 +47,5 @@ void builds(builder *build, uint64_t kind, const char *args, const char *frame, 
 void builds_rows(builder *build);
 
 void test_frames(void), test_books(void), test_sides(void), test_radio(void), test_readings(void), test_reels(void), test_rust(void);
-/* The tests of hb_plain and hb_play: those of C call those of Rust. The tests of the header's names. */
-void test_plain(void), test_rust_plain(void), test_plays(void), test_rust_plays(void), test_names(void);
+/* The tests of hb_plain, hb_play and the widths: those of C call those of Rust. The tests of the header's names. */
+void test_plain(void), test_rust_plain(void), test_plays(void), test_rust_plays(void), test_widths(void), test_rust_widths(void), test_names(void);

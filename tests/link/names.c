@@ -174,6 +174,12 @@ static void refusals(void) {
     memset(owners, 1, sizeof owners);
     same("no owner table", hb_side_clear(book, sizeof book, NULL, 0, 0, 0, 1).refusal, HB_REFUSED_OWNERS_WRONG);
     same("other side", hb_side_remove(book, sizeof book, owners, sizeof owners, 0, 0, 2, HB_SET_RF_FREQUENCY).refusal, HB_REFUSED_OTHER_SIDE);
+    const uint64_t unserved = 3076924, needs[HB_BANKS_MAX + 1] = {0};
+    uint8_t codes[HB_BANKS_MAX + 1] = {HB_RX_BW_AUTO};
+    same("no width", hb_widths_check(&unserved, 1, codes, 1).refusal, HB_REFUSED_NO_WIDTH);
+    same("not the narrowest", hb_widths_check(needs, 1, codes, 1).refusal, HB_REFUSED_NOT_NARROWEST);
+    same("too many banks", hb_widths_find(needs, HB_BANKS_MAX + 1, codes, HB_BANKS_MAX + 1).refusal, HB_REFUSED_LIST_LENGTH);
+    same("as many as may be", hb_widths_find(needs, HB_BANKS_MAX, codes, HB_BANKS_MAX).value, HB_BANKS_MAX);
 }
 
 static hb_status_t word(unsigned high, unsigned low) {

@@ -27,10 +27,14 @@ macro_rules! thread_local {
 mod hoardbutton;
 #[path = "../oracle/model.rs"]
 mod model;
+#[path = "../oracle/widths.rs"]
+mod rule;
 #[path = "plain.rs"]
 mod plain;
 #[path = "plays.rs"]
 mod plays;
+#[path = "widths.rs"]
+mod widths;
 
 // Of the other tests: the plain list, random frames, and the model of playback.
 mod book {
@@ -54,7 +58,7 @@ mod make {
     include!("../playback/make.rs");
 }
 
-// The Rust's own enums give the codes, if they are beside the repository. model.rs and builders.rs find Vec and Box here.
+// The Rust's own enums give the codes, if they are beside the repository. The files of tests/oracle find Vec and Box here.
 mod enums {
     pub use alloc::{boxed::Box, vec::Vec};
     #[cfg(not(source))]

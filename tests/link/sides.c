@@ -347,9 +347,7 @@ static void slots(void) {
 /* A random number, and none of the other tests'. */
 static uint64_t some(void) {
     static uint64_t state = 2021;
-    state ^= state << 13;
-    state ^= state >> 7;
-    return state ^= state << 17;
+    return next_of(&state);
 }
 
 /* Owners at random, both forms of a setting with one; quotas that fill the room, or less. */

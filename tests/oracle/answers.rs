@@ -1,10 +1,12 @@
 // The answer to a request: by the Rust (rust.rs), or by a model of ours where the Rust has none. Texts, counter differences and widths are made
 // by other means than the port's: by floats that are exact, by wrapping, by the rule of the widths.
+use crate::banks::{Banks, CHECK, FIND};
 use crate::coded::{CHECKED, DECODE};
 use crate::enums::RX_BW;
 use crate::model::{checked, decode, Built, Decoded};
 use crate::sets::RESPONSES;
 use crate::texts::{level, ratio};
+use crate::widths::Listed;
 use crate::{ANSWER, PAYLOAD};
 
 // Bytes of an answer: numbers low byte first.
@@ -67,6 +69,7 @@ pub fn answer(op: u8, aux: u8, payload: &[u8; PAYLOAD]) -> Option<[u8; ANSWER]> 
             79 => parts!(to: tenths(payload[0])),
             DECODE => decoded(to, slice),
             CHECKED => built(to, payload, aux as usize),
+            CHECK | FIND => listed(to, op, Banks::read(payload), aux as usize),
             _ => panic!("{} is no operation", op),
         }
     }
@@ -106,6 +109,17 @@ fn built(to: &mut Vec<u8>, payload: &[u8; PAYLOAD], count: usize) {
             to.extend(frame);
         }
         Built::Refused(number, place) => parts!(to: number, place),
+    }
+}
+
+// Refusal, place, how many banks are right; and of a search all codes, as it leaves them.
+fn listed(to: &mut Vec<u8>, op: u8, mut banks: Banks, count: usize) {
+    let (needs, length) = (banks.list(count), banks.codes_len);
+    let codes = &mut banks.codes[..length];
+    let said = if op == CHECK { Listed::new().check(&needs, codes) } else { Listed::new().find(&needs, codes) };
+    parts!(to: said.refusal, said.place, said.count);
+    if op == FIND {
+        to.extend(banks.codes);
     }
 }
 

@@ -22,6 +22,7 @@ mod cmd {
 }
 
 mod answers;
+mod banks;
 mod builders;
 mod coded;
 #[cfg(source)]
@@ -36,6 +37,7 @@ mod model;
 mod sets;
 mod shown;
 mod texts;
+mod widths;
 
 // What the Rust's lib.rs declares and status.rs uses.
 #[derive(Debug, Clone, Copy)]

@@ -1,5 +1,6 @@
 // The requests: the wide set and the sample. Both are the same on every run: the random numbers have a fixed seed.
 use crate::answers::{answer, is_the_rusts};
+use crate::banks::banks;
 use crate::builders::{arguments, Argument};
 use crate::coded::codec;
 use crate::enums::{LORA_BW, LORA_CR, SF};
@@ -440,6 +441,7 @@ fn whole(requests: &str, answers: &str, is_wide: bool) -> Result<()> {
     counters(&mut set, is_wide)?;
     widths(&mut set)?;
     codec(&mut set, is_wide)?;
+    banks(&mut set, is_wide)?;
     set.end()
 }
 

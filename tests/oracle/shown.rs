@@ -4,7 +4,7 @@ use crate::builders::arguments;
 use crate::{ANSWER, HEAD, PAYLOAD, REQUEST};
 use std::io::Result;
 
-const OPERATIONS: [&str; 18] = [
+const OPERATIONS: [&str; 20] = [
     "Status",
     "Intr",
     "LoraRxStatsRsp",
@@ -23,6 +23,8 @@ const OPERATIONS: [&str; 18] = [
     "name of an RxBw",
     "decoder",
     "checked builder",
+    "widths of banks checked",
+    "widths of banks found",
 ];
 
 pub fn differ(requests: &str, answers: &str, others: &str) -> Result<()> {
@@ -52,7 +54,7 @@ fn shown(request: &[u8]) -> String {
             let count = arguments(kind).len();
             format!("builder of kind {}, arguments {:?}", kind, &arguments_of(&payload)[..count])
         }
-        op @ 64..=81 => {
+        op @ 64..=83 => {
             let name = OPERATIONS[op as usize - 64];
             format!("operation {}, {}, slice of {}, payload {}", op, name, request[1], hex(&payload))
         }

@@ -2,9 +2,9 @@
 -- (`longest-met`). A frame's numbers are as long as the widths of its row's fields let them be: one test, computed over all rows.
 -- Assumes nothing.
 use mathlib.Core.Path.{_≡_, refl, sym, ap, _∙_, subst}
-use mathlib.Core.Bool.{Bool, true, false, cond, _&&_}
-use mathlib.Core.List.{List, [], _∷_, _++_}
-use Prim.Native.Nat.{ℕ, zero, suc, _+_, _-_, _/_, _^_, _≤_, _<_}
+use mathlib.Core.Bool.{Bool, true, _&&_}
+use mathlib.Core.List.{List, [], _∷_}
+use Prim.Native.Nat.{ℕ, zero, suc, _+_, _-_, _^_, _≤_, _<_}
 use native.Mathlib.Nat.{le-of-suc-le-suc, not-suc-le-zero, add-zero, add-suc, suc-add}
 use native.Mathlib.Omega.{arith}
 use lib.Dec.{T, leb, ltb, leb→le, ltb→lt}
@@ -20,27 +20,13 @@ use Rattle.table.specs.Codes.{isIn, takes}
 use Rattle.table.specs.Table.{rows, numbersOf}
 use Rattle.table.specs.Laid.{find}
 use Rattle.table.proofs.Rows.{count}
-use Rattle.reading.specs.Decimal.{digit, digits, decimal}
+use Rattle.reading.specs.Decimal.{digits, decimal}
 use Rattle.reading.proofs.Decimals.{decimal-length}
 use Rattle.decoder.specs.Decoding.{Reading, reading, refuses, decode, sought, answered, judged, known, stray, lacking}
 use Rattle.codec.proofs.Accepted.{Inside, inside, Read, decode-read}
+use Rattle.texts.proofs.Longest.{decimal-most}
 use Rattle.dump_text.specs.Text.{kindOf, refusalOf, placeIn, argumentsOf, blanked, lineOf}
 use Rattle.dump_text.specs.Parts.{longest}
-
--- ---- numbers
-
-digits-most : (most n : ℕ) → length (digits most n) ≤ most
-unfolding digits
-digits-most zero n = omega arith
-digits-most (suc most) n = by (ltb n 10) (digits-most most (n / 10))
-  where
-    by : (b : Bool) → length (digits most (n / 10)) ≤ most → length (cond b [] (digits most (n / 10)) ++ (digit n ∷ [])) ≤ suc most
-    by true h = omega arith
-    by false h = simp length-append (omega arith)
-
-pub decimal-most : (n : ℕ) → length (decimal n) ≤ 20
-unfolding decimal
-decimal-most n = digits-most 20 n
 
 -- ---- arguments
 

@@ -18,9 +18,10 @@ use Rattle.reel.specs.declared.Cursor.{Cursor}
 use Rattle.reel.specs.Reel.{Unreeled, unreel}
 use Rattle.reel.proofs.Reels.{unreel-nil}
 use Rattle.reel.proofs.Found.{Whole, Ended, Cut}
+use Rattle.texts.proofs.Writing.{sets-append}
 use Rattle.dump_text.specs.Text.{lineOf}
 use Rattle.dump_text.specs.Parts.{Lines, none, line, longest, goesOn, linesFrom, linesOf, Puts, Passes}
-use Rattle.dump_text.proofs.Writing.{sets-append, puts-length}
+use Rattle.dump_text.proofs.Writing.{puts-length}
 use Rattle.dump_text.proofs.Longest.{line-longest, refusal-longest}
 
 -- ---- what is left to do, by what comes next

@@ -2,35 +2,23 @@
 -- at a time, and what numbers after blanks come to.
 -- Assumes nothing.
 use mathlib.Core.Path.{_≡_, refl, sym, ap, _∙_}
-use mathlib.Core.Bool.{true, false}
 use mathlib.Core.List.{List, [], _∷_, _++_, append-assoc, append-nil}
 use Prim.Native.Nat.{ℕ, suc, _+_, _/_, _≤_, _<_, _^_}
-use native.Mathlib.Nat.{zero-add}
 use native.Mathlib.Omega.{arith}
 use native.Mathlib.Numerals.{add-one}
-use lib.Dec.{leb}
-use lib.ListN.{length, set, take, drop, getD, length-append}
-use lib.Seq.{sets, length-sets, sets-eq, take-suc, split-at}
-use borrow.Author.Tests.{le-leb, lt-leb}
+use lib.ListN.{length, take, drop, getD, length-append}
+use lib.Seq.{sets, length-sets, take-suc, split-at}
 use Rattle.refusal.specs.declared.Refusal.{Refusal}
 use Rattle.refusal.specs.Numbers.{numberOf, placeOf}
 use Rattle.decoder.specs.Decoding.{reading, refuses}
 use Rattle.reading.specs.Decimal.{digit, decimal}
 use Rattle.reading.proofs.Decimals.{decimal-one, decimal-more}
+use Rattle.texts.specs.Whole.{told, laid}
+use Rattle.texts.proofs.Writing.{sets-append, start-whole}
 use Rattle.dump_text.specs.Text.{blanked, headOf, lineOf}
 use Rattle.dump_text.specs.Parts.{Puts}
-use Rattle.dump_text.specs.Whole.{told, laid}
 
 -- ---- one behind the other
-
-pub sets-append : (l : List ℕ) (i : ℕ) (a b : List ℕ) → sets (sets l i a) (i + length a) b ≡ sets l i (a ++ b)
-sets-append l i [] b = ap (λ (k : ℕ). sets l k b) (omega arith)
-sets-append l i (x ∷ a) b =
-    let e : i + suc (length a) ≡ suc i + length a = omega arith in
-    ap (λ (k : ℕ). sets (sets (set l i x) (suc i) a) k b) e ∙ sets-append (set l i x) (suc i) a b
-
-sets-start : (a l : List ℕ) → length a ≤ length l → sets l 0 a ≡ a ++ drop (length a) l
-sets-start a l h = sets-eq a l 0 (omega arith) ∙ ap (λ (k : ℕ). a ++ drop k l) (zero-add (length a))
 
 module _ {a b o p q : List ℕ} {at r s : ℕ} where
   pub puts-then : Puts a at o r p → Puts b r p s q → Puts (a ++ b) at o s q
@@ -58,20 +46,10 @@ module _ {a o p : List ℕ} {at r : ℕ} where
 pub puts-none : (o : List ℕ) (at : ℕ) → Puts [] at o at o
 puts-none o at = record { behind = omega arith; stands = refl }
 
--- a whole text at the start of an output, with room for the longest and without
+-- a whole text at the start of an output, with room for the longest
 module _ (a o : List ℕ) {p : List ℕ} {r : ℕ} (room : ℕ) (fits : length a ≤ room) (h : room ≤ length o) where
-  pub start-whole : r ≡ length a → p ≡ sets o 0 a → (r ≡ told room a o) × ((p ≡ laid room a o) × (r ≤ length o))
-  start-whole e f =
-      let yes : leb room (length o) ≡ true = le-leb room (length o) h in
-      (rw yes e, (rw yes (f ∙ sets-start a o (omega arith)), omega arith))
-
   pub puts-whole : Puts a 0 o r p → (r ≡ told room a o) × ((p ≡ laid room a o) × (r ≤ length o))
-  puts-whole u = start-whole (omega (arith, u .behind)) (u .stands)
-
-pub short-whole : (room : ℕ) (a o : List ℕ) → length o < room → (0 ≡ told room a o) × ((o ≡ laid room a o) × (0 ≤ length o))
-short-whole room a o h =
-    let no-room : leb room (length o) ≡ false = lt-leb room (length o) h in
-    (rw no-room refl, (rw no-room refl, omega arith))
+  puts-whole u = start-whole a o room fits h (omega (arith, u .behind)) (u .stands)
 
 -- ---- the digits of a number, two at a time
 

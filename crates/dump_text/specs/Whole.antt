@@ -27,13 +27,3 @@ pub record Lays (text : List ℕ) (write : Bool) (before : List ℕ) (r : ℕ) (
   pub fits : r ≤ length before → r ≡ length text
   pub longer : length before < r → length before < length text
   pub stands : after ≡ cond write (text ++ drop (length text) before) before
-
--- ---- texts that have a longest
-
--- the text's length, where the output has that much room; else 0
-abbrev pub told : ℕ → List ℕ → List ℕ → ℕ
-told room text out = cond (leb room (length out)) (length text) 0
-
--- the text at the output's start and the rest as it was, where the output has that much room; else all of it as it was
-abbrev pub laid : ℕ → List ℕ → List ℕ → List ℕ
-laid room text out = cond (leb room (length out)) (text ++ drop (length text) out) out

@@ -5,6 +5,7 @@ use mathlib.Core.List.{List}
 use Prim.Native.Nat.{ℕ, _<_}
 use native.Mathlib.Omega.{arith}
 use mathlib.Core.Logic.{_⊎_, inl, inr}
+use lib.ListN.{length}
 use Rattle.refusal.specs.declared.Refusal.{Refusal}
 use Rattle.refusal.specs.declared.Refusal.the-variants.{BufferSize, TraceFault}
 use Rattle.refusal.specs.Numbers.{numberOf}
@@ -21,8 +22,13 @@ use Rattle.book.proofs.Keeps.{lentTo, refused-keeps}
 use Rattle.owners.specs.Owners.{OwnerTable}
 use Rattle.sides.specs.Calls.{Request, sideCall}
 use Rattle.sides.proofs.Keeps.{side-keeps}
+use Rattle.bank_widths.specs.declared.Answer as widths
+use Rattle.bank_widths.specs.declared.Answer.the-variants as banks
+use Rattle.bank_widths.specs.Lists.{found, foundIn}
+use Rattle.bank_widths.proofs.Laws.{found-keeps}
 use Rattle.playback.specs.Plays.{plays}
 use Rattle.playback.proofs.Laws.{play-keeps as day-keeps}
+use Rattle.hoardbutton.specs.Banks.{banksC}
 use Rattle.hoardbutton.specs.Books.{answerC}
 use Rattle.hoardbutton.specs.Plays.{dayC, refusalIn}
 use Rattle.hoardbutton.specs.Reels.{dumpC, textC}
@@ -52,6 +58,14 @@ shared-keeps t w c o b B = by (sideCall ours t w c o b .answer) refl
         → (sideCall ours t w c o b .output ≡ o) × (sideCall ours t w c o b .bytes ≡ b)
     by (Done n) e q = absurd (omega arith)
     by (Refused x) e q = side-keeps ours t w c o b B x e
+
+-- `hb_widths_find`
+pub codes-keep : (ns out : List ℕ) → 0 < banksC (found ns (length out)) .refusal → foundIn ns out ≡ out
+codes-keep ns out = by (found ns (length out)) refl
+  where
+    by : (a : widths.Answer) → found ns (length out) ≡ a → 0 < banksC a .refusal → foundIn ns out ≡ out
+    by (banks.Done n) e q = absurd (omega arith)
+    by (banks.Refused x) e q = found-keeps ns out x e
 
 -- `hb_play`: by its own refusal, 11, nothing is altered. By 15 the book is that of the records before the fault: the one refusal that alters.
 pub play-keeps : (t b : List ℕ) → dayC (plays t b .played) .refusal ≡ 11 → plays t b .bytes ≡ b

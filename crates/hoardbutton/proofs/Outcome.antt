@@ -108,3 +108,11 @@ hb-side-replay-once κs a h o u p q i = (same (p .0) (q .0) i, (o .1 .0, (o .1 .
 
 hb-side-ask-once : Once hoardbutton.shared.hb_side_ask.ended hoardbutton.shared.hb_side_ask.Reads.Pre hoardbutton.shared.hb_side_ask.Reads.Learnt
 hb-side-ask-once κs a h o u p q i = (same (p .0) (q .0) i, (o .1 .0, (o .1 .1 .0, (o .1 .1 .1 .0, (o .1 .1 .1 .1 .0, (o .1 .1 .1 .1 .1 .0, (o .1 .1 .1 .1 .1 .1 .0, (same (p .1) (q .1) i, o .1 .1 .1 .1 .1 .1 .1 .1))))))))
+
+-- ---- banks
+
+hb-widths-check-once : Once hoardbutton.banks.hb_widths_check.ended hoardbutton.banks.hb_widths_check.Reads.Pre hoardbutton.banks.hb_widths_check.Reads.Learnt
+hb-widths-check-once κs a h o u p q i = (same p q i, o .1)
+
+hb-widths-find-once : Once hoardbutton.banks.hb_widths_find.ended hoardbutton.banks.hb_widths_find.Reads.Pre hoardbutton.banks.hb_widths_find.Reads.Learnt
+hb-widths-find-once κs a h o u p q i = (same (p .0) (q .0) i, (o .1 .0, (same (p .1) (q .1) i, o .1 .1 .1)))

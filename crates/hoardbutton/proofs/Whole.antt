@@ -26,6 +26,9 @@ use Rattle.book.proofs.Places.{after-place}
 use Rattle.owners.specs.Owners.{OwnerTable}
 use Rattle.sides.specs.Calls.{Request, sideCall}
 use Rattle.sides.proofs.Places.{side-place}
+use Rattle.bank_widths.specs.declared.Answer.the-variants as banks
+use Rattle.bank_widths.specs.Lists.{found, judged}
+use Rattle.bank_widths.proofs.Laws.{found-place, judged-place}
 use Rattle.cmd_lora.specs.declared.LoraBw.{LoraBw}
 use Rattle.cmd_lora.specs.Codes.{loraBwCode}
 use Rattle.status.specs.declared.CmdStatus.{CmdStatus}
@@ -132,6 +135,17 @@ book-whole c b x e = low-small (placeOf x) (omega (arith, after-place ours b c x
 -- so of a side's
 pub side-whole : (t : OwnerTable) (w : ℕ) (c : Request) (o b : List ℕ) (x : Refusal) → sideCall ours t w c o b .answer ≡ Refused x → low (placeOf x) ≡ placeOf x
 side-whole t w c o b x e = low-small (placeOf x) (omega (arith, side-place ours b t w c o x e))
+
+-- ---- banks
+
+low-bank : (x : Refusal) → placeOf x ≤ 32 → low (placeOf x) ≡ placeOf x
+low-bank x h = low-small (placeOf x) (omega (arith, h))
+
+pub widths-check-whole : (ns cs : List ℕ) (x : Refusal) → judged ns cs ≡ banks.Refused x → low (placeOf x) ≡ placeOf x
+widths-check-whole ns cs x e = low-bank x (judged-place ns cs x e)
+
+pub widths-find-whole : (ns : List ℕ) (m : ℕ) (x : Refusal) → found ns m ≡ banks.Refused x → low (placeOf x) ≡ placeOf x
+widths-find-whole ns m x e = low-bank x (found-place ns m x e)
 
 -- ---- the widths stand in the order of their codes
 

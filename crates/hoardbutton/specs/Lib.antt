@@ -1,6 +1,7 @@
 pub mod Answers
 pub mod Frames
 pub mod Books
+pub mod Banks
 pub mod Radio
 pub mod Readings
 pub mod Reels

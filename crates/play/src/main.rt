@@ -4,6 +4,7 @@
 ghost use mathlib.Core.Path.{_≡_};
 ghost use Prim.Native.Nat.{_≤_};
 ghost use lib.ListN.{length};
+use arguments::Word;
 use book::Answer;
 use libc::STDERR_FILENO;
 use libc::STDIN_FILENO;
@@ -202,15 +203,6 @@ fn named(name: &[u8], s: &mut [u8], book: &mut [u8], text: &mut [u8]) -> bool {
 
 // ---- the arguments
 
-// What an argument is before `--`, behind which each is a name.
-enum Word {
-    Name,
-    Mark,
-    Help,
-    Version,
-    Unknown,
-}
-
 // How many arguments are names, and which one is `--`; 0 if none is.
 struct Names {
     count: usize,
@@ -221,27 +213,6 @@ struct Names {
 enum Asked {
     Reports(Names),
     Nothing,
-}
-
-fn word_of(arg: &[u8]) -> Word {
-    if check::same(arg, b"--") {
-        return Word::Mark;
-    }
-    if check::same(arg, b"-h") {
-        return Word::Help;
-    }
-    if check::same(arg, b"--help") {
-        return Word::Help;
-    }
-    if check::same(arg, b"--version") {
-        return Word::Version;
-    }
-    if 1 < arg.len() {
-        if arg[0] == b'-' {
-            return Word::Unknown;
-        }
-    }
-    Word::Name
 }
 
 fn help() {
@@ -276,7 +247,7 @@ fn look_through(count: usize, arg: &mut [u8]) -> Asked
     let mut i: usize = 1;
     while i < count {
         let n = os::arg(i, arg);
-        let w = word_of(&arg[..n]);
+        let w = arguments::word_of(&arg[..n]);
         match w {
             Word::Name => {}
             Word::Mark => {

@@ -5,6 +5,7 @@ use Rattle.refusal.specs.declared.Refusal.{Refusal}
 use Rattle.refusal.specs.declared.Refusal.the-variants.{ShortFrame, UnknownOpcode, WrongLength, StrayBit, UnknownCode}
 use Rattle.refusal.specs.declared.Refusal.the-variants.{ArgumentOutside, ResponseLength, NoRoom, NotHeld, NotWellFormed}
 use Rattle.refusal.specs.declared.Refusal.the-variants.{BufferSize, OutputShort, NotAKind, ReelCut, TraceFault, BothForms, OwnersWrong, OtherSide}
+use Rattle.refusal.specs.declared.Refusal.the-variants.{NoWidth, NotNarrowest, ListLength}
 
 abbrev pub numberOf : Refusal → ℕ
 -- a frame too short to hold an opcode
@@ -43,14 +44,22 @@ numberOf BothForms = 16
 numberOf OwnersWrong = 17
 -- the other side owns the kind
 numberOf OtherSide = 18
+-- no listed width is at least the bank's need
+numberOf (NoWidth bank) = 19
+-- the code proposed for the bank is not the narrowest listed one whose width is at least its need
+numberOf (NotNarrowest bank) = 20
+-- a list has no bank or more than 32, or the two lists differ in length
+numberOf ListLength = 21
 
 -- where: the lowest such byte of the frame, counted from 0; of arguments the first, counted from 1; of a trace the byte where the faulty record
--- starts, counted from 0, and 0 for its header; 0 where there is no place to name
+-- starts, counted from 0, and 0 for its header; of banks the first, counted from 1; 0 where there is no place to name
 abbrev pub placeOf : Refusal → ℕ
 placeOf (StrayBit at) = at
 placeOf (UnknownCode at) = at
 placeOf (ArgumentOutside at) = at
 placeOf (TraceFault at) = at
+placeOf (NoWidth bank) = bank
+placeOf (NotNarrowest bank) = bank
 placeOf ShortFrame = 0
 placeOf UnknownOpcode = 0
 placeOf WrongLength = 0
@@ -65,3 +74,4 @@ placeOf ReelCut = 0
 placeOf BothForms = 0
 placeOf OwnersWrong = 0
 placeOf OtherSide = 0
+placeOf ListLength = 0

@@ -2,7 +2,7 @@
 ghost use mathlib.Core.Path.{_≡_};
 ghost use Rattle.refusal.specs.Numbers.{numberOf, placeOf};
 
-// A refusal that has a place carries it: a byte of the frame or of the trace from 0, or an argument from 1.
+// A refusal that has a place carries it: a byte of the frame or of the trace from 0, or an argument or a bank from 1.
 pub enum Refusal {
     ShortFrame,
     UnknownOpcode,
@@ -22,10 +22,13 @@ pub enum Refusal {
     BothForms,
     OwnersWrong,
     OtherSide,
+    NoWidth(usize),
+    NotNarrowest(usize),
+    ListLength,
 }
 
 impl Refusal {
-    // Its number, 1 to 18.
+    // Its number, 1 to 21.
     pub fn number(self) -> u32
         ensures { λ r. ⌜ r ≡ numberOf self ⌝ }
     {
@@ -48,6 +51,9 @@ impl Refusal {
             Refusal::BothForms => 16,
             Refusal::OwnersWrong => 17,
             Refusal::OtherSide => 18,
+            Refusal::NoWidth(_) => 19,
+            Refusal::NotNarrowest(_) => 20,
+            Refusal::ListLength => 21,
         }
     }
 
@@ -60,6 +66,8 @@ impl Refusal {
             Refusal::UnknownCode(at) => at,
             Refusal::ArgumentOutside(at) => at,
             Refusal::TraceFault(at) => at,
+            Refusal::NoWidth(bank) => bank,
+            Refusal::NotNarrowest(bank) => bank,
             Refusal::ShortFrame => 0,
             Refusal::UnknownOpcode => 0,
             Refusal::WrongLength => 0,
@@ -74,6 +82,7 @@ impl Refusal {
             Refusal::BothForms => 0,
             Refusal::OwnersWrong => 0,
             Refusal::OtherSide => 0,
+            Refusal::ListLength => 0,
         }
     }
 }

@@ -13,7 +13,8 @@ use Rattle.day.specs.declared.LastLoraRxStats.the-variants as lastLoraRxStats
 use Rattle.day.specs.declared.LastLoraPacketStatus.the-variants as lastLoraPacketStatus
 use Rattle.day.specs.declared.LastFskRxStats.the-variants as lastFskRxStats
 use Rattle.day.specs.declared.LastFskPacketStatus.the-variants as lastFskPacketStatus
-use Rattle.report.specs.Report.{word, spaced, line, refusedBy, refusedBelow, countsText, numbersText, stoppedText}
+use Rattle.texts.specs.Words.{word, spaced, line}
+use Rattle.report.specs.Report.{refusedBy, refusedBelow, countsText, numbersText, stoppedText}
 
 -- the answers, as the chip gave them
 day : Day

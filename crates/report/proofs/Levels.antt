@@ -11,10 +11,10 @@ use lib.Seq.{take-all, take-take, take-append-seam}
 use Rattle.reading.specs.Level.{snrText, textOf}
 use Rattle.reading.specs.declared.Text.{Text}
 use Rattle.reading.proofs.Texts.{snr-length}
-use Rattle.report.specs.Report.{spaced}
-use Rattle.report.specs.Written.{Puts}
-use Rattle.report.proofs.Writing.{puts-then, puts-as}
-use Rattle.report.proofs.Forms.{spaced-two}
+use Rattle.texts.specs.Words.{spaced}
+use Rattle.texts.specs.Written.{Puts}
+use Rattle.texts.proofs.Writing.{puts-then, puts-as}
+use Rattle.texts.proofs.Forms.{spaced-two}
 
 module _ {t : Text} (l : List ℕ) (e : t ≡ textOf l) where
   abbrev padded : List ℕ

@@ -1,4 +1,3 @@
-pub mod Writing
 pub mod Forms
 pub mod Levels
 pub mod Longest

@@ -1,11 +1,9 @@
 -- No text is longer than the output must be that it asks for: whatever a day's numbers are (`numbers-most`), whichever frame (`frame-most`)
 -- and wherever the fault (`stopped-most`). No decimal here has more than twenty digits.
 -- Assumes nothing.
-use mathlib.Core.Path.{_≡_, refl}
 use mathlib.Core.Bool.{Bool, true, false, cond}
-use mathlib.Core.List.{List, [], _∷_, _++_}
+use mathlib.Core.List.{List, [], _∷_}
 use Prim.Native.Nat.{ℕ, zero, suc, _+_, _*_, _/_, _≤_}
-use native.Mathlib.Nat.{mul-suc}
 use native.Mathlib.Omega.{arith}
 use lib.Dec.{ltb}
 use lib.IntN.{ℤ, pos, natAbs}
@@ -13,7 +11,9 @@ use lib.Signed.{ltZ}
 use lib.ListN.{length, getD, length-append}
 use Rattle.reading.specs.Decimal.{decimal}
 use Rattle.reading.specs.Level.{minus, tenths, hundredths, rssiText, snrText}
-use Rattle.dump_text.proofs.Longest.{decimal-most, line-longest}
+use Rattle.texts.specs.Words.{word, line}
+use Rattle.texts.proofs.Longest.{decimal-most, spaced-length, spaced-none}
+use Rattle.dump_text.proofs.Longest.{line-longest}
 use Rattle.day.specs.declared.Day.{Day}
 use Rattle.day.specs.declared.LastLoraRxStats.{LastLoraRxStats}
 use Rattle.day.specs.declared.LastLoraRxStats.the-variants as lastLoraRxStats
@@ -23,9 +23,9 @@ use Rattle.day.specs.declared.LastFskRxStats.{LastFskRxStats}
 use Rattle.day.specs.declared.LastFskRxStats.the-variants as lastFskRxStats
 use Rattle.day.specs.declared.LastFskPacketStatus.{LastFskPacketStatus}
 use Rattle.day.specs.declared.LastFskPacketStatus.the-variants as lastFskPacketStatus
-use Rattle.report.specs.Report.{word, spaced, line, flag, refusedBy, refusedBelow, countsText, numbersText, frameText, stoppedText}
+use Rattle.report.specs.Report.{flag, refusedBy, refusedBelow, countsText, numbersText, frameText, stoppedText}
 use Rattle.report.specs.Report.{loraRxStatsText, loraPacketStatusText, fskRxStatsText, fskPacketStatusText}
-use Rattle.report.specs.Written.{longest, longestLine}
+use Rattle.report.specs.Lengths.{longest, longestLine}
 
 -- ---- words
 
@@ -46,14 +46,6 @@ flag-most true = decimal-most 1
 flag-most false = decimal-most 0
 
 -- ---- lines
-
-spaced-length : (w : List ℕ) (ws : List (List ℕ)) → length (spaced (w ∷ ws) (10 ∷ [])) ≡ suc (length w) + length (spaced ws (10 ∷ []))
-unfolding spaced
-spaced-length w ws = simp length-append (omega arith)
-
-spaced-none : length (spaced [] (10 ∷ [])) ≡ 1
-unfolding spaced
-spaced-none = refl
 
 one-most : (w : List ℕ) (n : ℕ) → length (line w (decimal n ∷ [])) ≤ length w + 22
 unfolding line

@@ -1,15 +1,13 @@
 -- The text of a day's numbers, to the byte (REFERENCE, "Playback").
 -- Assumes nothing.
 use Prim.Native.Nat.{ℕ, zero, suc}
-use Prim.Native.Char.{code}
-use Prim.Native.String.{String}
-use Prim.Native.String as quoted
 use mathlib.Core.Bool.{Bool, cond}
 use mathlib.Core.List.{List, [], _∷_, _++_}
 use lib.Dec.{ltb}
 use lib.ListN.{getD}
 use Rattle.reading.specs.Decimal.{decimal}
 use Rattle.reading.specs.Level.{rssiText, snrText}
+use Rattle.texts.specs.Words.{word, line}
 use Rattle.decoder.specs.Decoding.{decode}
 use Rattle.dump_text.specs.Text.{lineOf}
 use Rattle.cmd_lora.specs.declared.rsp.LoraRxStatsRsp.{LoraRxStatsRsp}
@@ -25,22 +23,6 @@ use Rattle.day.specs.declared.LastFskRxStats.{LastFskRxStats}
 use Rattle.day.specs.declared.LastFskRxStats.the-variants as lastFskRxStats
 use Rattle.day.specs.declared.LastFskPacketStatus.{LastFskPacketStatus}
 use Rattle.day.specs.declared.LastFskPacketStatus.the-variants as lastFskPacketStatus
-
--- ---- words and lines
-
--- the bytes of a word, as it is written
-abbrev pub word : String → List ℕ
-word quoted.[] = []
-word (quoted._∷_ c s) = code c ∷ word s
-
--- words, one blank before each, and what ends them; 32 is the blank
-unfoldable pub spaced : List (List ℕ) → List ℕ → List ℕ
-spaced [] end = end
-spaced (w ∷ ws) end = 32 ∷ w ++ spaced ws end
-
--- a line is its first word, the others with one blank before each, and a newline, which is 10
-unfoldable pub line : List ℕ → List (List ℕ) → List ℕ
-line w ws = w ++ spaced ws (10 ∷ [])
 
 -- yes prints as 1, no as 0
 abbrev pub flag : Bool → List ℕ

@@ -5,13 +5,14 @@ ghost use mathlib.Core.Bool.{cond};
 ghost use mathlib.Core.List.{[], _∷_};
 ghost use Prim.Native.Nat.{_≤_};
 ghost use lib.ListN.{length};
-ghost use Rattle.reading.specs.Decimal.{digit, decimal};
 ghost use Rattle.reading.specs.Level.{rssiText, snrText};
-ghost use Rattle.dump_text.specs.Whole.{told, laid};
-ghost use Rattle.report.specs.Report.{spaced, refusedBy, refusedBelow};
+ghost use Rattle.texts.specs.Words.{spaced};
+ghost use Rattle.texts.specs.Written.{Puts};
+ghost use Rattle.texts.specs.Whole.{told, laid};
+ghost use Rattle.report.specs.Report.{refusedBy, refusedBelow};
 ghost use Rattle.report.specs.Report.{countsText, loraRxStatsText, loraPacketStatusText, fskRxStatsText, fskPacketStatusText};
 ghost use Rattle.report.specs.Report.{numbersText, frameText, stoppedText};
-ghost use Rattle.report.specs.Written.{Puts, piece, filled, longest, longestLine};
+ghost use Rattle.report.specs.Lengths.{longest, longestLine};
 use day::Day;
 use day::LastFskPacketStatus;
 use day::LastFskRxStats;
@@ -19,61 +20,15 @@ use day::LastLoraPacketStatus;
 use day::LastLoraRxStats;
 use reading::HalfDbm;
 use reading::QuarterDb;
+use texts::put_form;
+use texts::put_text;
+use texts::put_word;
 
 // No day's numbers take more, whatever they are.
 pub const LONGEST: usize = 2048;
 
 // No line of a frame or of a fault takes more.
 pub const LONGEST_LINE: usize = 70;
-
-// ---- words: each `put_..` writes behind what stands there, as far as the output goes, and hands back where it ended
-
-fn put_byte(out: &mut [u8], at: usize, b: u8) -> usize
-    ensures { λ r. ⌜ Puts (b ∷ []) at (now (out .entry)) r (now (out .exit)) ⌝ }
-{
-    if at < out.len() {
-        out[at] = b;
-        at + 1
-    } else {
-        at
-    }
-}
-
-fn put_text(out: &mut [u8], at: usize, text: &[u8]) -> usize
-    ensures { λ r. ⌜ Puts (now (text .entry)) at (now (out .entry)) r (now (out .exit)) ⌝ }
-{
-    let mut to = at;
-    let mut i: usize = 0;
-    while i < text.len() {
-        to = put_byte(out, to, text[i]);
-        i += 1;
-    }
-    to
-}
-
-fn last_digit(n: u64) -> u8
-    ensures { λ r. ⌜ r ≡ digit n ⌝ }
-{
-    48 + (n % 10) as u8
-}
-
-fn put_decimal(out: &mut [u8], at: usize, n: u64) -> usize
-    ensures { λ r. ⌜ Puts (decimal n) at (now (out .entry)) r (now (out .exit)) ⌝ }
-{
-    if n < 10 {
-        return put_byte(out, at, last_digit(n));
-    }
-    let last = put_decimal(out, at, n / 10);
-    put_byte(out, last, last_digit(n))
-}
-
-// A blank and a word.
-fn put_word(out: &mut [u8], at: usize, word: &[u8]) -> usize
-    ensures { λ r. ⌜ Puts (spaced (now (word .entry) ∷ []) []) at (now (out .entry)) r (now (out .exit)) ⌝ }
-{
-    let to = put_byte(out, at, b' ');
-    put_text(out, to, word)
-}
 
 // ---- fields whose text is no number: a name and the text
 
@@ -95,35 +50,6 @@ fn put_ratio(out: &mut [u8], at: usize, name: &[u8], ratio: QuarterDb) -> usize
     let n = text.len;
     let to = put_word(out, at, name);
     put_word(out, to, &bytes[0..n])
-}
-
-// ---- forms: the digit 0 stands for the first of the numbers, 1 for the second, and so on; any other byte for itself
-
-// One byte of a form.
-fn put_piece(out: &mut [u8], at: usize, b: u8, numbers: &[u64]) -> usize
-    ensures { λ r. ⌜ Puts (piece b (now (numbers .entry))) at (now (out .entry)) r (now (out .exit)) ⌝ }
-{
-    if b < b'0' {
-        return put_byte(out, at, b);
-    }
-    let j = (b - b'0') as usize;
-    if j < numbers.len() {
-        put_decimal(out, at, numbers[j])
-    } else {
-        put_byte(out, at, b)
-    }
-}
-
-fn put_form(out: &mut [u8], at: usize, form: &[u8], numbers: &[u64]) -> usize
-    ensures { λ r. ⌜ Puts (filled (now (form .entry)) (now (numbers .entry)) []) at (now (out .entry)) r (now (out .exit)) ⌝ }
-{
-    let mut to = at;
-    let mut i: usize = 0;
-    while i < form.len() {
-        to = put_piece(out, to, form[i], numbers);
-        i += 1;
-    }
-    to
 }
 
 // A yes or no, as a number of a form.

@@ -1,9 +1,9 @@
 -- The rule of the RxBw table (REFERENCE, "Widths"): the width that a code names, in tenths of kHz; 0 for a code that names none.
 -- Which codes there are says specs/Codes.antt of the table.
 -- Assumes nothing.
-use Prim.Native.Nat.{ℕ, _+_, _*_, _/_, _%_, _^_}
+use Prim.Native.Nat.{ℕ, zero, suc, _+_, _*_, _/_, _%_, _^_}
 use mathlib.Core.Bool.{Bool, cond, _&&_}
-use mathlib.Core.List.{[], _∷_}
+use mathlib.Core.List.{List, [], _∷_}
 use lib.Dec.{ltb, leb}
 use lib.ListN.{getD}
 use Rattle.table.specs.Codes.{rxBwCodes, isIn}
@@ -22,3 +22,12 @@ isNamed c = ltb c 255 && isIn c rxBwCodes
 
 unfoldable pub nameOf : ℕ → ℕ
 nameOf c = cond (isNamed c) (tenths (divisor c)) 0
+
+-- the values of f at n numbers from i on
+abbrev pub valuesFrom : (ℕ → ℕ) → ℕ → ℕ → List ℕ
+valuesFrom f i zero = []
+valuesFrom f i (suc n) = f i ∷ valuesFrom f (suc i) n
+
+-- the names of all codes in their order, 0 to 255
+unfoldable pub names : List ℕ
+names = valuesFrom nameOf 0 256

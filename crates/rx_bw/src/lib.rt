@@ -1,6 +1,6 @@
 // The names of the FSK receive filter's bandwidths, by code byte. cmd_fsk has the enum `RxBw`.
 ghost use mathlib.Core.Path.{_≡_};
-ghost use Rattle.rx_bw.specs.Width.{nameOf};
+ghost use Rattle.rx_bw.specs.Width.{nameOf, names};
 
 // Each code byte's name in tenths of kHz; 0 where no name is listed, and for `BwAuto`. A line over each eight gives the divisor's m and d.
 const RX_BW: [u16; 256] = [
@@ -300,4 +300,11 @@ pub fn rx_bw_tenths(code: u8) -> u16
 {
     let i = code as usize;
     RX_BW[i]
+}
+
+// The names of all codes, for those who look at many: each mention of the table makes it anew.
+pub fn rx_bw_names() -> [u16; 256]
+    ensures { λ r. ⌜ r ≡ names ⌝ }
+{
+    RX_BW
 }

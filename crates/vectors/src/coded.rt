@@ -3,7 +3,7 @@ use crate::answer::Answer;
 use crate::request::u64_at;
 use refusal::Refusal;
 
-fn refused(why: Refusal) -> Answer {
+pub fn refused(why: Refusal) -> Answer {
     Answer::new()
         .low(why.number() as u64)
         .low(why.place() as u64)

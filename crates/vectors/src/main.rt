@@ -14,6 +14,7 @@ mod fsk;
 mod lora;
 mod readers;
 mod request;
+mod widths;
 
 const REQUEST: usize = 112;
 
@@ -45,6 +46,12 @@ fn answer_to(op: u8, aux: usize, p: &[u8]) -> Answer {
     }
     if op == 81 {
         return coded::built(aux, p);
+    }
+    if op == 82 {
+        return widths::checked(aux, p);
+    }
+    if op == 83 {
+        return widths::found(aux, p);
     }
     readers::read_numbers(op, p)
 }

@@ -2,10 +2,11 @@
 -- Assumes nothing.
 use native.Mathlib.Omega.{arith}
 use borrow.Author.Needs.{needs}
+use Rattle.texts.proofs.Writing.{short-whole}
 use Rattle.dump_text.specs.Text.{lineOf}
 use Rattle.dump_text.specs.Parts.{longest}
 use Rattle.dump_text.proofs.Longest.{line-longest}
-use Rattle.dump_text.proofs.Writing.{puts-whole, short-whole}
+use Rattle.dump_text.proofs.Writing.{puts-whole}
 use Rattle.dump_text.proofs.line.Statement.{statement}
 use Rattle.dump_text.proofs.line.Tie as tie
 

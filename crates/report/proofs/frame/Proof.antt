@@ -6,12 +6,12 @@ use Prim.Native.Nat.{ℕ}
 use native.Mathlib.Omega.{arith}
 use borrow.Author.Needs.{needs}
 use lib.ListN.{replicate}
+use Rattle.texts.specs.Words.{word}
+use Rattle.texts.proofs.Writing.{puts-then, puts-as, puts-whole, short-whole, laid-part}
 use Rattle.dump_text.specs.Parts as dump
 use Rattle.dump_text.specs.Text.{lineOf}
-use Rattle.dump_text.proofs.Writing.{short-whole}
-use Rattle.report.specs.Report.{word, frameText}
-use Rattle.report.specs.Written.{longestLine}
-use Rattle.report.proofs.Writing.{puts-then, puts-as, puts-whole, laid-part}
+use Rattle.report.specs.Report.{frameText}
+use Rattle.report.specs.Lengths.{longestLine}
 use Rattle.report.proofs.Longest.{frame-most}
 use Rattle.report.proofs.frame.Statement.{statement}
 use Rattle.report.proofs.frame.Tie as tie

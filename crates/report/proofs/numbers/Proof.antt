@@ -1,10 +1,9 @@
 -- `numbers` meets its contract: its pieces make the text, and there is room for all of it.
 -- Assumes nothing.
 use borrow.Author.Needs.{needs}
-use Rattle.dump_text.proofs.Writing.{short-whole}
+use Rattle.texts.proofs.Writing.{puts-then, puts-whole, short-whole}
 use Rattle.report.specs.Report.{numbersText}
-use Rattle.report.specs.Written.{longest}
-use Rattle.report.proofs.Writing.{puts-then, puts-whole}
+use Rattle.report.specs.Lengths.{longest}
 use Rattle.report.proofs.Longest.{numbers-most}
 use Rattle.report.proofs.numbers.Statement.{statement}
 use Rattle.report.proofs.numbers.Tie as tie

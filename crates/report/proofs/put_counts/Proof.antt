@@ -2,8 +2,8 @@
 -- Assumes nothing.
 use mathlib.Core.Path.{refl}
 use borrow.Author.Needs.{needs}
+use Rattle.texts.proofs.Writing.{puts-then, puts-as}
 use Rattle.report.specs.Report.{countsText}
-use Rattle.report.proofs.Writing.{puts-then, puts-as}
 use Rattle.report.proofs.Forms.{records-form, skipped-form}
 use Rattle.report.proofs.put_counts.Statement.{statement}
 use Rattle.report.proofs.put_counts.Tie as tie

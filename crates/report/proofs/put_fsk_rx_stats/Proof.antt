@@ -2,8 +2,8 @@
 -- Assumes nothing.
 use mathlib.Core.Path.{refl, ap, _∙_}
 use borrow.Author.Needs.{needs}
+use Rattle.texts.proofs.Writing.{puts-as, puts-none}
 use Rattle.report.specs.Report.{fskRxStatsText}
-use Rattle.report.proofs.Writing.{puts-as, puts-none}
 use Rattle.report.proofs.Forms.{fsk-rx-form}
 use Rattle.report.proofs.put_fsk_rx_stats.Statement.{statement}
 use Rattle.report.proofs.put_fsk_rx_stats.Tie as tie

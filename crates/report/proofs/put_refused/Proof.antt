@@ -6,9 +6,9 @@ use native.Mathlib.Omega.{arith}
 use native.Mathlib.Numerals.{add-one}
 use borrow.Author.Needs.{needs}
 use lib.ListN.{length}
+use Rattle.texts.specs.Written.{Puts}
+use Rattle.texts.proofs.Writing.{puts-then, puts-as, puts-none, puts-length}
 use Rattle.report.specs.Report.{refusedBelow}
-use Rattle.report.specs.Written.{Puts}
-use Rattle.report.proofs.Writing.{puts-then, puts-as, puts-none, puts-length}
 use Rattle.report.proofs.put_refused.Statement.{statement}
 use Rattle.report.proofs.put_refused.Tie as tie
 

@@ -3,8 +3,8 @@
 use mathlib.Core.Path.{refl}
 use borrow.Author.Needs.{needs}
 use borrow.Author.Tests.{lt-ltb, le-ltb}
+use Rattle.texts.proofs.Writing.{puts-as, puts-none}
 use Rattle.report.specs.Report.{refusedBy}
-use Rattle.report.proofs.Writing.{puts-as, puts-none}
 use Rattle.report.proofs.Forms.{refused-form}
 use Rattle.report.proofs.put_refused_by.Statement.{statement}
 use Rattle.report.proofs.put_refused_by.Tie as tie

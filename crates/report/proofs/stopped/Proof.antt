@@ -2,10 +2,9 @@
 -- Assumes nothing.
 use mathlib.Core.Path.{refl}
 use borrow.Author.Needs.{needs}
-use Rattle.dump_text.proofs.Writing.{short-whole}
+use Rattle.texts.proofs.Writing.{puts-as, puts-whole, short-whole}
 use Rattle.report.specs.Report.{stoppedText}
-use Rattle.report.specs.Written.{longestLine}
-use Rattle.report.proofs.Writing.{puts-as, puts-whole}
+use Rattle.report.specs.Lengths.{longestLine}
 use Rattle.report.proofs.Forms.{stopped-form}
 use Rattle.report.proofs.Longest.{stopped-most}
 use Rattle.report.proofs.stopped.Statement.{statement}

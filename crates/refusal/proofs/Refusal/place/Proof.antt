@@ -8,11 +8,13 @@ pub place-spec : {M : Type 1} → statement M
 place-spec =
     tie.close
     (tie.spec
-    (search needs) (search needs) (search needs) (search needs) (search needs) (search needs) (search needs) (search needs) (search needs) (search needs) (search needs) (search needs) (search needs) (search needs) (search needs) (search needs) (search needs) (search needs)
+    (search needs) (search needs) (search needs) (search needs) (search needs) (search needs) (search needs) (search needs) (search needs) (search needs) (search needs) (search needs) (search needs) (search needs) (search needs) (search needs) (search needs) (search needs) (search needs) (search needs) (search needs)
     (λ c. sym (ap placeOf (c .before .self .given .1)))
     (λ c. sym (ap placeOf (c .before .self2 .given .1)))
     (λ c. sym (ap placeOf (c .before .self3 .given .1)))
     (λ c. sym (ap placeOf (c .before .self4 .given .1)))
+    (λ c. sym (ap placeOf (c .before .self5 .given .1)))
+    (λ c. sym (ap placeOf (c .before .self6 .given .1)))
     (λ c. sym (ap placeOf (c .enum-told .given .1)))
     (λ c. sym (ap placeOf (c .enum-told2 .given .1)))
     (λ c. sym (ap placeOf (c .enum-told3 .given .1)))
@@ -26,4 +28,5 @@ place-spec =
     (λ c. sym (ap placeOf (c .enum-told11 .given .1)))
     (λ c. sym (ap placeOf (c .enum-told12 .given .1)))
     (λ c. sym (ap placeOf (c .enum-told13 .given .1)))
-    (λ c. sym (ap placeOf (c .enum-told14 .given .1))))
+    (λ c. sym (ap placeOf (c .enum-told14 .given .1)))
+    (λ c. sym (ap placeOf (c .enum-told15 .given .1))))

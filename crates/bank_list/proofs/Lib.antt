@@ -1,0 +1,9 @@
+pub mod Scans
+pub mod Said
+pub mod Kept
+pub mod States
+pub mod Turns
+pub mod Laws
+pub mod Examples
+pub mod Forms
+pub mod Outcome

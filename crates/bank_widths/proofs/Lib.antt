@@ -1,0 +1,9 @@
+pub mod Banks
+pub mod Divisors
+pub mod Examples
+pub mod Keys
+pub mod Laws
+pub mod Listed
+pub mod Outcome
+pub mod Rules
+pub mod Search

@@ -1,0 +1,4 @@
+pub mod Writing
+pub mod Forms
+pub mod Longest
+pub mod Outcome
