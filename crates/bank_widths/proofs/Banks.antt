@@ -21,10 +21,10 @@ use Rattle.bank_widths.specs.declared.Answer.{Answer}
 use Rattle.bank_widths.specs.declared.Answer.the-variants.{Done, Refused}
 use Rattle.bank_widths.specs.declared.Choice.{Choice}
 use Rattle.bank_widths.specs.declared.Choice.the-variants.{Code, None}
-use Rattle.bank_widths.specs.Rule.{isRight, isServed, rightFor}
+use Rattle.width_rule.specs.Rule.{isRight, isServed, rightFor}
 use Rattle.bank_widths.specs.Lists.{found, foundIn, ifDone, judged, judgedFrom, lengthsRight, rightCodes}
 use Rattle.bank_widths.specs.Keys.{choiceFor}
-use Rattle.bank_widths.proofs.Rules.{Right, means-right, right-means, right-once}
+use Rattle.width_rule.proofs.Rules.{Right, means-right, right-means, right-once}
 use Rattle.bank_widths.proofs.Search.{served-right}
 
 -- ---- what a choice says of its bank

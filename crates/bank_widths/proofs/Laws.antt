@@ -34,10 +34,10 @@ use Rattle.refusal.specs.declared.Refusal.the-variants.{NoWidth, NotNarrowest, 
 use Rattle.refusal.specs.Numbers.{numberOf, placeOf}
 use Rattle.bank_widths.specs.declared.Answer.{Answer}
 use Rattle.bank_widths.specs.declared.Answer.the-variants.{Done, Refused}
-use Rattle.bank_widths.specs.Rule.{isRight, isServed, rightFor}
+use Rattle.width_rule.specs.Rule.{isRight, isServed, rightFor}
 use Rattle.bank_widths.specs.Lists.{found, foundIn, ifDone, judged, judgedFrom, lengthsRight, rightCodes}
-use Rattle.bank_widths.proofs.Listed.{listed-bounds, widest}
-use Rattle.bank_widths.proofs.Rules.{Right, any-no, any-yes, means-right, right-found, right-means, right-served, suffices-is, suffices-says}
+use Rattle.width_rule.proofs.Listed.{listed-bounds, widest}
+use Rattle.width_rule.proofs.Rules.{Right, any-no, any-yes, means-right, right-found, right-means, right-served, suffices-is, suffices-says}
 use Rattle.bank_widths.proofs.Search.{served-right}
 use Rattle.bank_widths.proofs.Banks.{isDone, codes-at, codes-length, found-out, judge-other, judge-unserved, judged-count, judged-in, judged-out, lengths-say, right-itself}
 

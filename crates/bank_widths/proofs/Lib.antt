@@ -3,7 +3,5 @@ pub mod Divisors
 pub mod Examples
 pub mod Keys
 pub mod Laws
-pub mod Listed
 pub mod Outcome
-pub mod Rules
 pub mod Search

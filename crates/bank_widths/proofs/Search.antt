@@ -14,11 +14,11 @@ use borrow.Author.Tests.{eqb-false, eqb-true, le-leb, leb-true, ltb-false, ltb-t
 use lib.Dec.{eqb, leb, ltb}
 use Rattle.table.specs.Codes.{rxBwCodes}
 use Rattle.rx_bw.specs.Width.{divisor, isNamed}
-use Rattle.bank_widths.specs.Rule.{isAtLeast, isAtMost, isServed, rightFor, widthOf}
+use Rattle.width_rule.specs.Rule.{isAtLeast, isAtMost, isServed, rightFor, widthOf}
 use Rattle.bank_widths.specs.Keys.{better, choiceFor, greatest, keyOf, keysBelow, limitOf, listedKeys}
 use Rattle.bank_widths.specs.declared.Choice.the-variants.{Code, None}
-use Rattle.bank_widths.proofs.Listed.{listed-bounds}
-use Rattle.bank_widths.proofs.Rules.{Right, any-no, right-found, right-served, suffices-says}
+use Rattle.width_rule.proofs.Listed.{listed-bounds}
+use Rattle.width_rule.proofs.Rules.{Right, any-no, right-found, right-served, suffices-says}
 
 -- ---- keys
 

@@ -6,7 +6,7 @@ use mathlib.Core.Bool.{cond}
 use mathlib.Core.List.{List, [], _∷_, _++_}
 use lib.Dec.{eqb, ltb}
 use Rattle.rx_bw.specs.Width.{divisor, isNamed}
-use Rattle.bank_widths.specs.Rule.{isServed, rightFor}
+use Rattle.width_rule.specs.Rule.{isServed, rightFor}
 use Rattle.bank_widths.specs.declared.Choice.{Choice}
 use Rattle.bank_widths.specs.declared.Choice.the-variants.{Code, None}
 
@@ -27,7 +27,7 @@ listedKeys = keysBelow 256
 unfoldable pub better : ℕ → ℕ → ℕ → ℕ
 better limit best key = cond (ltb limit key) best (cond (ltb best key) key best)
 
--- the best of the keys, from one on that is so far
+-- the best of these keys and of the one so far
 unfoldable pub greatest : ℕ → ℕ → List ℕ → ℕ
 greatest limit best [] = best
 greatest limit best (k ∷ ks) = greatest limit (better limit best k) ks

@@ -8,7 +8,7 @@ use lib.ListN.{length}
 use Rattle.refusal.specs.declared.Refusal.the-variants.{NoWidth, NotNarrowest, ListLength}
 use Rattle.bank_widths.specs.declared.Answer.{Answer}
 use Rattle.bank_widths.specs.declared.Answer.the-variants.{Done, Refused}
-use Rattle.bank_widths.specs.Rule.{isRight, isServed, rightFor}
+use Rattle.width_rule.specs.Rule.{isRight, isServed, rightFor}
 
 -- a list has 1 to 32 banks, and the other list is as long
 unfoldable pub lengthsRight : ℕ → ℕ → Bool

@@ -1,5 +1,5 @@
 // Which width of the FSK receive filter each bank gets: a proposed list of codes is judged, or the right one is found.
-// specs/Rule.antt has the rule and specs/Lists.antt what is answered; proofs/Laws.antt what follows from them.
+// width_rule has the rule, specs/Lists.antt what is answered, and proofs/Laws.antt what follows from them.
 // A width is 40 MHz over a divisor, so the narrowest is that of the greatest divisor, and a need in Hz bounds the divisor.
 ghost use mathlib.Core.Path.{_≡_};
 ghost use mathlib.Core.Bool.{cond};

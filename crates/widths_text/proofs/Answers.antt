@@ -15,7 +15,7 @@ use Rattle.refusal.specs.declared.Refusal.the-variants.{ListLength}
 use Rattle.refusal.specs.Numbers.{numberOf, placeOf}
 use Rattle.bank_widths.specs.declared.Answer.{Answer}
 use Rattle.bank_widths.specs.declared.Answer.the-variants.{Done, Refused}
-use Rattle.bank_widths.specs.Rule.{isServed, rightFor}
+use Rattle.width_rule.specs.Rule.{isServed, rightFor}
 use Rattle.bank_widths.specs.Lists.{lengthsRight, judgedFrom, judged, rightCodes, found, foundIn}
 use Rattle.bank_widths.proofs.Banks.{right-itself, codes-length, codes-at, lengths-say}
 use Rattle.bank_widths.proofs.Laws.{Stopped, refused-means, found-accepted}

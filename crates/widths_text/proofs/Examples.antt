@@ -8,7 +8,7 @@ use Rattle.reading.specs.Level.{tenths}
 use Rattle.texts.specs.Words.{word, spaced, line}
 use Rattle.table.specs.Codes.{rxBwCodes, isIn}
 use Rattle.rx_bw.specs.Width.{isNamed, nameOf}
-use Rattle.bank_widths.specs.Rule.{suffices, anySuffices, isServed, noneNarrower, isRight, rightIn, rightFor}
+use Rattle.width_rule.specs.Rule.{suffices, anySuffices, isServed, noneNarrower, isRight, rightIn, rightFor}
 use Rattle.bank_widths.specs.Lists.{lengthsRight, judgedFrom, judged, rightCodes, found}
 use Rattle.bank_list.specs.Lines.{bankOf, leadingOf, lineOf, linesOf, numberFrom, skips}
 use Rattle.bank_list.specs.Banks.{parsed, parsedFrom}

@@ -14,7 +14,7 @@ use Rattle.refusal.specs.Numbers.{numberOf, placeOf}
 use Rattle.rx_bw.specs.Width.{divisor, nameOf}
 use Rattle.bank_widths.specs.declared.Answer.{Answer}
 use Rattle.bank_widths.specs.declared.Answer.the-variants.{Done, Refused}
-use Rattle.bank_widths.specs.Rule.{isServed}
+use Rattle.width_rule.specs.Rule.{isServed}
 use Rattle.bank_widths.specs.Lists.{judged, rightCodes, found}
 use Rattle.bank_list.specs.declared.Found.{Found}
 use Rattle.bank_list.specs.declared.Found.the-variants.{Needs, Proposals, Wrong}

@@ -6,7 +6,7 @@ use borrow.Author.Needs.{needs}
 use denote.Ref.{now}
 use lib.ListN.{drop, getD, length}
 use Rattle.bank_widths.specs.declared.Choice.the-variants.{Code, None}
-use Rattle.bank_widths.specs.Rule.{isRight}
+use Rattle.width_rule.specs.Rule.{isRight}
 use Rattle.bank_widths.specs.Lists.{judgedFrom}
 use Rattle.bank_widths.specs.Keys.{choiceFor}
 use Rattle.bank_widths.proofs.Banks.{choice-none, choice-right, choice-served, judge-end, judge-other, judge-pass, judge-unserved, right-itself, right-other}

@@ -15,8 +15,8 @@ use lib.Dec.{eqb, leb}
 use Rattle.table.specs.Codes.{rxBwCodes, isIn}
 use Rattle.rx_bw.specs.Width.{divisor, isNamed}
 use Rattle.rx_bw.proofs.Names.{both, named-in}
-use Rattle.bank_widths.specs.Rule.{anySuffices, isAtLeast, isAtMost, isRight, isServed, noneNarrower, rightFor, rightIn, suffices, widthOf}
-use Rattle.bank_widths.proofs.Listed.{listed-apart}
+use Rattle.width_rule.specs.Rule.{anySuffices, isAtLeast, isAtMost, isRight, isServed, noneNarrower, rightFor, rightIn, suffices, widthOf}
+use Rattle.width_rule.proofs.Listed.{listed-apart}
 
 -- what it means to be right for a need
 pub record Right (need c : ℕ) : Type 0 where

@@ -1,0 +1,3 @@
+pub mod Examples
+pub mod Listed
+pub mod Rules
