@@ -7,6 +7,7 @@ import json
 import os
 import re
 import textwrap
+from fractions import Fraction
 
 ROOT = os.path.dirname(os.path.dirname(os.path.abspath(__file__)))
 LINE = 140
@@ -115,6 +116,11 @@ def rx_tenths(code):
     return 40_000 // divisor * 10 if divisor <= 4_000 else (2 * 400_000 + divisor) // (2 * divisor)
 
 
+def symbol_ms(sf, code):
+    """How long a LoRa symbol lasts in ms, exactly: 2^sf over the width of a LoraBw code of 1 MHz or one of its halves."""
+    return Fraction(1000 * 2 ** sf, Fraction(1_000_000, 2 ** (7 - code)))
+
+
 # ---- names for C
 
 def snake(name):
@@ -137,6 +143,10 @@ def c_code(enum, name):
 
 def c_refusal(refusal):
     return "HB_REFUSED_" + snake(refusal["name"])
+
+
+def c_rule(rule):
+    return "HB_RULE_" + rule["name"].upper()
 
 
 # ---- tables of the reference
@@ -240,6 +250,21 @@ def md_calls(data):
                  [[what, "`%s`" % name, ", ".join(map(str, numbers)) or "none"] for name, what, numbers in data["calls"]])
 
 
+def md_rules(data):
+    return table(["number", "word", "name for C", "rule"],
+                 [[str(r["number"]), "`%s`" % r["name"], "`%s`" % c_rule(r), r["rule"]] for r in data["rules"]])
+
+
+def md_symbols(data):
+    """The pairs of a spreading factor and a width that the profile permits, with the optimisation that each demands."""
+    widths = [code for e in data["enums"] if e["name"] == "LoraBw" for code, name in e["codes"] if name in ("Bw125", "Bw250")]
+    rows = []
+    for sf in range(7, 13):
+        lasting = [symbol_ms(sf, code) for code in widths]
+        rows.append(["`Sf%d`" % sf] + [cell for ms in lasting for cell in ("%.3f ms" % ms, "on" if ms >= 16 else "off")])
+    return table(["spreading factor", "symbol at 125 kHz", "optimisation", "symbol at 250 kHz", "optimisation"], rows)
+
+
 def md_forms(data):
     pairs = [[data["kinds"][kind - 1] for kind in pair] for pair in data["forms"]]
     return table(["shorter form", "its length", "longer form", "its length"],
@@ -306,6 +331,14 @@ def c_refusals(data):
             for r in data["refusals"]]
 
 
+def c_rules(data):
+    """The names of codes are those for C, of the enums that the judged kinds take."""
+    taken = {a["takes"] for k in data["kinds"] if k["kind"] in (1, 2, 4) for a in k["arguments"]}
+    names = {name: c_code(e, name) for e in data["enums"] if e["name"] in taken for _, name in e["codes"]}
+    told = [re.sub(r"`(\w+)`", lambda m: names.get(m[1], m[1]), r["rule"]) for r in data["rules"]]
+    return ["#define %s %d /* %s */" % (c_rule(r), r["number"], text) for r, text in zip(data["rules"], told)]
+
+
 def c_slots(data):
     """The slots of the settings, by kinds in a row."""
     runs = []
@@ -365,9 +398,10 @@ def c_named(data):
 MADE = {
     "docs/REFERENCE.md": {"commands": md_commands, "arguments": md_arguments, "enums": md_enums, "status": md_status,
                           "interrupts": md_interrupts, "responses": md_responses, "LoraBw": md_lora_bw, "RxBw": md_rx_bw,
-                          "refusals": md_refusals, "order": md_order, "calls": md_calls, "forms": md_forms, "sizes": md_sizes},
+                          "refusals": md_refusals, "order": md_order, "calls": md_calls, "rules": md_rules, "symbols": md_symbols,
+                          "forms": md_forms, "sizes": md_sizes},
     "include/hoardbutton.h": {"sizes": c_sizes, "refusals": c_refusals, "kinds": c_kinds, "codes": c_codes, "slots": c_slots, "status": c_status,
-                              "interrupts": c_interrupts},
+                              "interrupts": c_interrupts, "rules": c_rules},
     "tests/link/named.h": {None: c_named},
 }
 

@@ -1,5 +1,5 @@
 /* Hoardbutton for C: frames of the LR2021 radio, its status and responses, a settings book in a lent buffer, which two sides may share,
- * recorded days, the receive widths of banks, reels and dumps.
+ * recorded days, the receive widths of banks, the locker profile, reels and dumps.
  *
  * Every function answers every input; none traps, allocates, keeps a pointer or touches a global, so all may be called from several threads
  * and from an interrupt at the same time, as long as no buffer is written by one call while another has it. A refusal is one of
@@ -66,6 +66,7 @@ extern "C" {
 #define HB_REFUSED_NO_WIDTH 19 /* no listed width is at least the bank's need; place: the bank, from 1 */
 #define HB_REFUSED_NOT_NARROWEST 20 /* the code proposed for the bank is not the narrowest listed one whose width is at least its need; place: the bank, from 1 */
 #define HB_REFUSED_LIST_LENGTH 21 /* a list has not 1 to 32 banks, or the list of codes has another length */
+#define HB_REFUSED_SETTING_MISSING 22 /* the locker profile cannot be judged, since the book lacks a frame of kind 1, 2 or 4; one of them missing is enough */
 /* end: refusals */
 
 /* ---- kinds: each with its arguments in their order. A code is one of the constants named, a yes is 1 and a no is 0; hb_plain takes any
@@ -611,7 +612,8 @@ hb_decoded hb_decode(const uint8_t *frame, size_t len);
  * HB_BOOK_ALL bytes never lacks room. Where two kinds are one setting in two forms, as is said at their constants, a book holds one of the two;
  * bytes from elsewhere that hold both are refused by 16, by every call but hb_book_make. */
 
-/* A call's answer: value is the bytes written where a call writes, and else 0; for a list of banks it is how many there are. */
+/* A call's answer: value is the bytes written where a call writes, and else 0; for a list of banks it is how many there are,
+ * and for the locker profile the first broken rule. */
 typedef struct hb_answer {
     uint32_t refusal, place;
     uint64_t value;
@@ -872,6 +874,26 @@ hb_answer hb_widths_check(const uint64_t *needs, size_t n, const uint8_t *codes,
 /* Writes the right code for each bank's need; value is how many. hb_widths_check takes them, and takes no others. 21 also where codes has not the
  * length of needs. Refuses 21, 19. */
 hb_answer hb_widths_find(const uint64_t *needs, size_t n, uint8_t *codes, size_t m);
+
+/* ---- the locker profile: what banks may use. Three settings of a book are held to rules: kinds 1, 2 and 4, which are
+ * HB_SET_LORA_MODULATION_PARAMS, HB_SET_LORA_PACKET_PARAMS and HB_SET_LORA_SYNCWORD. All others are free. The rules are looked at in the order of
+ * their numbers, whatever kind they are about. A symbol lasts 2^sf over the exact width, so 16 ms or longer for HB_SF_11 and HB_SF_12 at
+ * HB_LORA_BW_125 and for HB_SF_12 at HB_LORA_BW_250, and for no other pair that the first two rules permit. */
+
+/* from commands.json: rules */
+#define HB_RULE_SPREADING_FACTOR 1 /* sf of kind 1 is HB_SF_7 to HB_SF_12 */
+#define HB_RULE_WIDTH 2 /* lora_bw of kind 1 is HB_LORA_BW_125 or HB_LORA_BW_250 */
+#define HB_RULE_RATE 3 /* lora_cr of kind 1 is one of the four rates with short interleaving, HB_LORA_CR_CR1_HAM45_SI to HB_LORA_CR_CR4_HAM12_SI */
+#define HB_RULE_HEADER 4 /* header_type of kind 2 is HB_HEADER_TYPE_EXPLICIT */
+#define HB_RULE_CRC 5 /* crc_en of kind 2 is 1, a yes */
+#define HB_RULE_SYNCWORD 6 /* syncword of kind 4 is 0x12 */
+#define HB_RULE_OPTIMISATION 7 /* ldro of kind 1 is HB_LDRO_ON where a symbol lasts at least 16 ms, and HB_LDRO_OFF where it does not */
+/* end: rules */
+
+/* Whether the book keeps all rules: value is 0 if it does, and else the first that it breaks, HB_RULE_... A yes is refusal 0 and value 0: look at
+ * refusal first, since value is 0 for a refused book too. 22 where a frame of kind 1, 2 or 4 is not held, whatever rules the others break.
+ * Refuses 11, 10, 16, 22. */
+hb_answer hb_profile(const uint8_t *book, size_t len);
 
 /* ---- reels: frames in a row, each behind a byte that says its length */
 

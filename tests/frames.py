@@ -1,20 +1,25 @@
-"""Random frames: `good` ones, and those of `frame`, of which half are damaged or any bytes. r is a random.Random."""
+"""Random frames: `good` ones and those `of_row`, which decode, and those of `frame`, of which half are damaged or any bytes. r is a random.Random."""
 import dump
 
 
-def good(r):
-    """A frame that decodes."""
-    kind, opcode, length, fields = r.choice(dump.ROWS)
+def of_row(r, row, chosen={}):
+    """A frame of a row of the table; chosen: what some of its arguments are, by their places from 0."""
+    kind, opcode, length, fields = row
     frame = bytearray(length)
     frame[0], frame[1] = opcode >> 8, opcode & 255
-    for place, codes in fields:
+    for at, (place, codes) in enumerate(fields):
         where = dump.bits(place)
         edge = r.random()
-        value = r.choice(list(codes)) if codes is not None else (
+        value = chosen[at] if at in chosen else r.choice(list(codes)) if codes is not None else (
             0 if edge < 0.1 else (1 << len(where)) - 1 if edge < 0.2 else r.getrandbits(len(where)) if where else 0)
         for i, (byte, bit) in enumerate(where):
             frame[byte] |= (value >> i & 1) << bit
     return bytes(frame)
+
+
+def good(r):
+    """A frame that decodes."""
+    return of_row(r, r.choice(dump.ROWS))
 
 
 def frame(r):

@@ -1,4 +1,4 @@
-"""A program as people call it: its options, messages and ways to name files, for dump-options, play-options and widths-options."""
+"""A program as people call it: its options, messages and ways to name files, for the scripts NAME-options."""
 import os
 import resource
 import subprocess

@@ -98,7 +98,7 @@ fn holds_both_forms(frames: &[Frame]) -> bool {
 }
 
 // What is wrong with a buffer is told in this order: its length, then its bytes, then a setting that they hold in both forms.
-fn judged(bytes: &[u8]) -> Result<Vec<Frame>, u8> {
+pub fn judged(bytes: &[u8]) -> Result<Vec<Frame>, u8> {
     if !(62..=4096).contains(&bytes.len()) {
         return Err(11);
     }

@@ -87,6 +87,7 @@ functions! {
         = hb_widths_check(*const u64 = needs.as_ptr(), usize = needs.len(), *const u8 = codes.as_ptr(), usize = codes.len());
     widths_find(needs: &[u64], codes: &mut [u8]) -> Answer
         = hb_widths_find(*const u64 = needs.as_ptr(), usize = needs.len(), *mut u8 = codes.as_mut_ptr(), usize = codes.len());
+    profile(b: &[u8]) -> Answer = hb_profile(*const u8 = b.as_ptr(), usize = b.len());
     reel_step(r: &[u8], at: u64) -> Step = hb_reel_step(*const u8 = r.as_ptr(), usize = r.len(), u64 = at);
     dump(r: &[u8], out: &mut [u8]) -> Answer = hb_dump(*const u8 = r.as_ptr(), usize = r.len(), *mut u8 = out.as_mut_ptr(), usize = out.len());
     play(t: &[u8], b: &mut [u8]) -> Day = hb_play(*const u8 = t.as_ptr(), usize = t.len(), *mut u8 = b.as_mut_ptr(), usize = b.len());

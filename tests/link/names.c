@@ -180,6 +180,42 @@ static void refusals(void) {
     same("not the narrowest", hb_widths_check(needs, 1, codes, 1).refusal, HB_REFUSED_NOT_NARROWEST);
     same("too many banks", hb_widths_find(needs, HB_BANKS_MAX + 1, codes, HB_BANKS_MAX + 1).refusal, HB_REFUSED_LIST_LENGTH);
     same("as many as may be", hb_widths_find(needs, HB_BANKS_MAX, codes, HB_BANKS_MAX).value, HB_BANKS_MAX);
+    same("a setting missing", hb_profile(book, sizeof book).refusal, HB_REFUSED_SETTING_MISSING);
+}
+
+/* A book with these three settings, built by the header's names. */
+static uint64_t rule_of(const uint64_t *modulation, const uint64_t *packet, uint64_t syncword) {
+    uint8_t book[HB_BOOK_ALL];
+    const hb_frame frames[] = {hb_checked(HB_SET_LORA_MODULATION_PARAMS, modulation, 5), hb_checked(HB_SET_LORA_PACKET_PARAMS, packet, 5),
+        hb_checked(HB_SET_LORA_SYNCWORD, &syncword, 1)};
+    hb_book_make(book, sizeof book);
+    for (size_t i = 0; i < 3; i++) hb_book_put(book, sizeof book, frames[i].bytes, frames[i].len);
+    hb_answer a = hb_profile(book, sizeof book);
+    same("refusal", a.refusal, 0);
+    return a.value;
+}
+
+/* Each rule by its name. */
+static void rules(void) {
+    const uint64_t good[] = {HB_SF_11, HB_LORA_BW_125, HB_LORA_CR_CR4_HAM12_SI, HB_LDRO_ON, HB_LORA_FILTER_AUTO};
+    const uint64_t packet[] = {8, 32, HB_HEADER_TYPE_EXPLICIT, 1, 0}, implicit[] = {8, 32, HB_HEADER_TYPE_IMPLICIT, 1, 0};
+    const uint64_t unchecked[] = {8, 32, HB_HEADER_TYPE_EXPLICIT, 0, 0};
+    const struct {
+        size_t argument;
+        uint64_t code, rule;
+    } wrong[] = {{0, HB_SF_6, HB_RULE_SPREADING_FACTOR}, {1, HB_LORA_BW_500, HB_RULE_WIDTH}, {2, HB_LORA_CR_NO_CODING, HB_RULE_RATE},
+        {2, HB_LORA_CR_CR5_HAM45_LI, HB_RULE_RATE}, {3, HB_LDRO_OFF, HB_RULE_OPTIMISATION}, {0, HB_SF_10, HB_RULE_OPTIMISATION}};
+    trying("a rule's name", "", 0);
+    same("none", rule_of(good, packet, 0x12), 0);
+    for (size_t i = 0; i < sizeof wrong / sizeof *wrong; i++) {
+        uint64_t modulation[5];
+        memcpy(modulation, good, sizeof good);
+        modulation[wrong[i].argument] = wrong[i].code;
+        same("rule of kind 1", rule_of(modulation, packet, 0x12), wrong[i].rule);
+    }
+    same("header", rule_of(good, implicit, 0x12), HB_RULE_HEADER);
+    same("crc", rule_of(good, unchecked, 0x12), HB_RULE_CRC);
+    same("syncword", rule_of(good, packet, 0x34), HB_RULE_SYNCWORD);
 }
 
 static hb_status_t word(unsigned high, unsigned low) {
@@ -218,5 +254,6 @@ void test_names(void) {
     texts();
     dumps();
     refusals();
+    rules();
     statuses();
 }

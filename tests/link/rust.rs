@@ -29,10 +29,16 @@ mod hoardbutton;
 mod model;
 #[path = "../oracle/widths.rs"]
 mod rule;
+#[path = "../oracle/profile.rs"]
+mod profile;
+#[path = "../oracle/lockers.rs"]
+mod lockers;
 #[path = "plain.rs"]
 mod plain;
 #[path = "plays.rs"]
 mod plays;
+#[path = "profiles.rs"]
+mod profiles;
 #[path = "widths.rs"]
 mod widths;
 

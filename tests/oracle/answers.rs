@@ -4,7 +4,8 @@ use crate::banks::{Banks, CHECK, FIND};
 use crate::coded::{CHECKED, DECODE};
 use crate::enums::RX_BW;
 use crate::model::{checked, decode, Built, Decoded};
-use crate::sets::RESPONSES;
+use crate::profile::said;
+use crate::sets::{PROFILE, RESPONSES};
 use crate::texts::{level, ratio};
 use crate::widths::Listed;
 use crate::{ANSWER, PAYLOAD};
@@ -70,6 +71,7 @@ pub fn answer(op: u8, aux: u8, payload: &[u8; PAYLOAD]) -> Option<[u8; ANSWER]> 
             DECODE => decoded(to, slice),
             CHECKED => built(to, payload, aux as usize),
             CHECK | FIND => listed(to, op, Banks::read(payload), aux as usize),
+            PROFILE => profiled(to, slice),
             _ => panic!("{} is no operation", op),
         }
     }
@@ -121,6 +123,12 @@ fn listed(to: &mut Vec<u8>, op: u8, mut banks: Banks, count: usize) {
     if op == FIND {
         to.extend(banks.codes);
     }
+}
+
+// Refusal, place, the first broken rule.
+fn profiled(to: &mut Vec<u8>, book: &[u8]) {
+    let said = said(book);
+    parts!(to: said.refusal, 0u8, said.rule);
 }
 
 fn half(payload: &[u8; PAYLOAD], at: usize) -> u16 {

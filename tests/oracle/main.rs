@@ -23,6 +23,8 @@ mod cmd {
 
 mod answers;
 mod banks;
+#[path = "../histories/book.rs"]
+mod book;
 mod builders;
 mod coded;
 #[cfg(source)]
@@ -33,7 +35,13 @@ mod enums;
 #[cfg(not(source))]
 #[path = "../histories/enums.rs"]
 mod enums;
+#[path = "../histories/frames.rs"]
+mod frames;
+mod lockers;
 mod model;
+mod profile;
+#[path = "../histories/record.rs"]
+mod record;
 mod sets;
 mod shown;
 mod texts;

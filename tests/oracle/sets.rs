@@ -4,6 +4,9 @@ use crate::banks::banks;
 use crate::builders::{arguments, Argument};
 use crate::coded::codec;
 use crate::enums::{LORA_BW, LORA_CR, SF};
+use crate::frames;
+use crate::lockers::{any_book, Lora, COMBINATIONS};
+use crate::profile::{place_among_answers, said, ANSWERS};
 use crate::{ANSWER, HEAD, PAYLOAD, REQUEST};
 use std::fs::File;
 use std::io::{BufWriter, Error, ErrorKind, Result, Write};
@@ -18,6 +21,8 @@ const FEW: usize = 24;
 // Operation and stated length of each response.
 pub const RESPONSES: [(u8, usize); 7] = [(66, 12), (67, 8), (68, 16), (69, 8), (70, 4), (71, 6), (72, 6)];
 const LONGEST: usize = 20;
+
+pub const PROFILE: u8 = 84;
 
 // splitmix64.
 pub struct Random(u64);
@@ -430,6 +435,32 @@ fn widths(set: &mut Set) -> Result<()> {
     Ok(())
 }
 
+fn profile(set: &mut Set, book: &[u8]) -> Result<()> {
+    set.ask_of(PROFILE, book.len(), book)
+}
+
+// Each combination of what the rules look at, and random books; the sample has four of these for each answer.
+fn profiles(set: &mut Set, is_wide: bool) -> Result<()> {
+    set.group("locker profiles");
+    let mut random = frames::Random(2026);
+    let mut met = [0; ANSWERS];
+    if is_wide {
+        for n in 0..COMBINATIONS {
+            profile(set, &Lora::combination(n).stored(&mut random))?;
+        }
+    }
+    for _ in 0..200_000 {
+        let book = any_book(&mut random, PAYLOAD);
+        let times = &mut met[place_among_answers(said(&book))];
+        if is_wide || *times < 4 {
+            *times += 1;
+            profile(set, &book)?;
+        }
+    }
+    assert!(met.iter().all(|times| *times >= 4), "an answer of the profile is missing: {:?}", met);
+    Ok(())
+}
+
 fn whole(requests: &str, answers: &str, is_wide: bool) -> Result<()> {
     let mut set = Set::new(requests, answers)?;
     builders(&mut set, is_wide)?;
@@ -442,6 +473,7 @@ fn whole(requests: &str, answers: &str, is_wide: bool) -> Result<()> {
     widths(&mut set)?;
     codec(&mut set, is_wide)?;
     banks(&mut set, is_wide)?;
+    profiles(&mut set, is_wide)?;
     set.end()
 }
 

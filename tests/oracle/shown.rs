@@ -4,7 +4,7 @@ use crate::builders::arguments;
 use crate::{ANSWER, HEAD, PAYLOAD, REQUEST};
 use std::io::Result;
 
-const OPERATIONS: [&str; 20] = [
+const OPERATIONS: [&str; 21] = [
     "Status",
     "Intr",
     "LoraRxStatsRsp",
@@ -25,6 +25,7 @@ const OPERATIONS: [&str; 20] = [
     "checked builder",
     "widths of banks checked",
     "widths of banks found",
+    "locker profile",
 ];
 
 pub fn differ(requests: &str, answers: &str, others: &str) -> Result<()> {
@@ -54,7 +55,7 @@ fn shown(request: &[u8]) -> String {
             let count = arguments(kind).len();
             format!("builder of kind {}, arguments {:?}", kind, &arguments_of(&payload)[..count])
         }
-        op @ 64..=83 => {
+        op @ 64..=84 => {
             let name = OPERATIONS[op as usize - 64];
             format!("operation {}, {}, slice of {}, payload {}", op, name, request[1], hex(&payload))
         }

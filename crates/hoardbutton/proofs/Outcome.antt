@@ -116,3 +116,6 @@ hb-widths-check-once κs a h o u p q i = (same p q i, o .1)
 
 hb-widths-find-once : Once hoardbutton.banks.hb_widths_find.ended hoardbutton.banks.hb_widths_find.Reads.Pre hoardbutton.banks.hb_widths_find.Reads.Learnt
 hb-widths-find-once κs a h o u p q i = (same (p .0) (q .0) i, (o .1 .0, (same (p .1) (q .1) i, o .1 .1 .1)))
+
+hb-profile-once : Once hoardbutton.profiles.hb_profile.ended hoardbutton.profiles.hb_profile.Reads.Pre hoardbutton.profiles.hb_profile.Reads.Learnt
+hb-profile-once κs a h o u p q i = (same p q i, o .1)

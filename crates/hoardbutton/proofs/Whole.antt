@@ -13,6 +13,7 @@ use Rattle.reading.specs.declared.Text.{Text}
 use Rattle.reading.specs.Level.{textOf}
 use Rattle.refusal.specs.declared.Refusal.{Refusal}
 use Rattle.refusal.specs.Numbers.{placeOf}
+use Rattle.refusal.proofs.Numbers.{number-bounds}
 use Rattle.decoder.specs.Decoding.{Reading, reading, refuses, decode}
 use Rattle.builder.specs.Building as builder
 use Rattle.builder.specs.Building.{Making, makes, checked, plainBy}
@@ -20,7 +21,7 @@ use Rattle.codec.proofs.Laws.{decode-kind}
 use Rattle.codec.proofs.Places.{placeIn, decode-place, Within, checked-within, plain-within}
 use Rattle.dump_text.proofs.Arguments.{decode-few}
 use Rattle.book.specs.declared.Answer.the-variants.{Refused}
-use Rattle.book.specs.Book.{ours}
+use Rattle.book.specs.Book.{opened, ours}
 use Rattle.book.specs.History.{Call, after}
 use Rattle.book.proofs.Places.{after-place}
 use Rattle.owners.specs.Owners.{OwnerTable}
@@ -29,6 +30,10 @@ use Rattle.sides.proofs.Places.{side-place}
 use Rattle.bank_widths.specs.declared.Answer.the-variants as banks
 use Rattle.bank_widths.specs.Lists.{found, judged}
 use Rattle.bank_widths.proofs.Laws.{found-place, judged-place}
+use Rattle.locker_profile.specs.declared.Answer as locker
+use Rattle.locker_profile.specs.declared.Answer.the-variants as profile
+use Rattle.locker_profile.specs.Profile.{answerFor}
+use Rattle.locker_profile.proofs.Bounds.{broken-bounds, profiled-place}
 use Rattle.cmd_lora.specs.declared.LoraBw.{LoraBw}
 use Rattle.cmd_lora.specs.Codes.{loraBwCode}
 use Rattle.status.specs.declared.CmdStatus.{CmdStatus}
@@ -40,6 +45,7 @@ use Rattle.status.specs.declared.ChipModeStatus.the-variants as mode
 use Rattle.status.specs.Codes.{cmdCode, resetCode, modeCode}
 use Rattle.hoardbutton.specs.Readings.{widths}
 use Rattle.hoardbutton.specs.Answers.{low}
+use Rattle.hoardbutton.specs.Profiles.{profileC}
 
 pub beyond : (n k : ℕ) → k ≤ n → (n ≡ k → ⊥) → suc k ≤ n
 beyond n k h d = omega arith
@@ -146,6 +152,29 @@ widths-check-whole ns cs x e = low-bank x (judged-place ns cs x e)
 
 pub widths-find-whole : (ns : List ℕ) (m : ℕ) (x : Refusal) → found ns m ≡ banks.Refused x → low (placeOf x) ≡ placeOf x
 widths-find-whole ns m x e = low-bank x (found-place ns m x e)
+
+-- ---- the locker profile
+
+pub profile-whole : (b : List ℕ) (x : Refusal) → answerFor b ≡ profile.Refused x → low (placeOf x) ≡ placeOf x
+profile-whole b x e = low-small (placeOf x) (omega (arith, profiled-place b x e))
+
+-- with neither a refusal nor a rule, it is a yes: no broken rule is 0
+pub profile-yes : (b : List ℕ) → profileC (answerFor b) .refusal ≡ 0 → profileC (answerFor b) .value ≡ 0 → answerFor b ≡ profile.Yes
+profile-yes b = by (answerFor b) refl
+  where
+    by : (a : locker.Answer) → answerFor b ≡ a → profileC a .refusal ≡ 0 → profileC a .value ≡ 0 → a ≡ profile.Yes
+    by profile.Yes e z w = refl
+    by (profile.Broken n) e z w = absurd (omega (arith, broken-bounds (opened ours b) n e .0))
+    by (profile.Refused x) e z w = absurd (omega (arith, number-bounds x .0))
+
+-- and else the rule is one of the seven
+pub profile-rule : (b : List ℕ) → profileC (answerFor b) .value ≤ 7
+profile-rule b = by (answerFor b) refl
+  where
+    by : (a : locker.Answer) → answerFor b ≡ a → profileC a .value ≤ 7
+    by profile.Yes e = omega arith
+    by (profile.Broken n) e = broken-bounds (opened ours b) n e .1
+    by (profile.Refused x) e = omega arith
 
 -- ---- the widths stand in the order of their codes
 

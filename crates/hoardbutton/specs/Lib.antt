@@ -2,6 +2,7 @@ pub mod Answers
 pub mod Frames
 pub mod Books
 pub mod Banks
+pub mod Profiles
 pub mod Radio
 pub mod Readings
 pub mod Reels

@@ -5,6 +5,7 @@ pub mod banks;
 pub mod books;
 pub mod frames;
 pub mod plays;
+pub mod profiles;
 pub mod radio;
 pub mod readings;
 pub mod reels;

@@ -5,7 +5,7 @@ use Rattle.refusal.specs.declared.Refusal.{Refusal}
 use Rattle.refusal.specs.declared.Refusal.the-variants.{ShortFrame, UnknownOpcode, WrongLength, StrayBit, UnknownCode}
 use Rattle.refusal.specs.declared.Refusal.the-variants.{ArgumentOutside, ResponseLength, NoRoom, NotHeld, NotWellFormed}
 use Rattle.refusal.specs.declared.Refusal.the-variants.{BufferSize, OutputShort, NotAKind, ReelCut, TraceFault, BothForms, OwnersWrong, OtherSide}
-use Rattle.refusal.specs.declared.Refusal.the-variants.{NoWidth, NotNarrowest, ListLength}
+use Rattle.refusal.specs.declared.Refusal.the-variants.{NoWidth, NotNarrowest, ListLength, SettingMissing}
 
 abbrev pub numberOf : Refusal → ℕ
 -- a frame too short to hold an opcode
@@ -50,6 +50,8 @@ numberOf (NoWidth bank) = 19
 numberOf (NotNarrowest bank) = 20
 -- a list has no bank or more than 32, or the two lists differ in length
 numberOf ListLength = 21
+-- the book holds no frame of a kind that the locker profile judges
+numberOf SettingMissing = 22
 
 -- where: the lowest such byte of the frame, counted from 0; of arguments the first, counted from 1; of a trace the byte where the faulty record
 -- starts, counted from 0, and 0 for its header; of banks the first, counted from 1; 0 where there is no place to name
@@ -75,3 +77,4 @@ placeOf BothForms = 0
 placeOf OwnersWrong = 0
 placeOf OtherSide = 0
 placeOf ListLength = 0
+placeOf SettingMissing = 0

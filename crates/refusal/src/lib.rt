@@ -25,10 +25,11 @@ pub enum Refusal {
     NoWidth(usize),
     NotNarrowest(usize),
     ListLength,
+    SettingMissing,
 }
 
 impl Refusal {
-    // Its number, 1 to 21.
+    // Its number, 1 to 22.
     pub fn number(self) -> u32
         ensures { λ r. ⌜ r ≡ numberOf self ⌝ }
     {
@@ -54,6 +55,7 @@ impl Refusal {
             Refusal::NoWidth(_) => 19,
             Refusal::NotNarrowest(_) => 20,
             Refusal::ListLength => 21,
+            Refusal::SettingMissing => 22,
         }
     }
 
@@ -83,6 +85,7 @@ impl Refusal {
             Refusal::OwnersWrong => 0,
             Refusal::OtherSide => 0,
             Refusal::ListLength => 0,
+            Refusal::SettingMissing => 0,
         }
     }
 }

@@ -12,6 +12,7 @@ mod coded;
 mod common;
 mod fsk;
 mod lora;
+mod profiles;
 mod readers;
 mod request;
 mod widths;
@@ -52,6 +53,11 @@ fn answer_to(op: u8, aux: usize, p: &[u8]) -> Answer {
     }
     if op == 83 {
         return widths::found(aux, p);
+    }
+    if op == 84 {
+        if aux <= p.len() {
+            return profiles::judged(&p[0..aux]);
+        }
     }
     readers::read_numbers(op, p)
 }

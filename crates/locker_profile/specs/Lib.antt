@@ -1,0 +1,4 @@
+pub mod Rules
+pub mod Profile
+pub mod Steps
+pub mod Latest

@@ -1,0 +1,344 @@
+/* hb_profile: books by hand, every combination of what the rules look at, and random books, good and damaged, against a reader of books and rules
+ * that stand here (REFERENCE, "Commands", "Book" and "Locker profile"). profiles.rs tries others, against another model. */
+#include "link.h"
+
+enum { HEAD = 62, SLOTS = 29, MOST = 4096, LONGEST = 4200, ANSWERS = 12 };
+
+/* ---- a book's bytes a second time */
+
+/* Each setting by its slot: kind, the opcode's second byte, and the bits of the bytes behind the opcode that its arguments have. */
+static const struct {
+    uint8_t kind, opcode;
+    const char *bits;
+} settings[SLOTS] = {{1, 0x20, "FF FF"}, {2, 0x21, "FF FF FF 07"}, {3, 0x22, "FF 01"}, {4, 0x23, "FF"}, {5, 0x26, "87 FF FF FF FF FF"},
+    {6, 0x26, "87 FF FF FF FF FF 7F FF FF FF"}, {7, 0x27, "FF 1F FF FF FF FF FF"}, {11, 0x2B, "FF FF FF FF FF FF FF FF FF"}, {12, 0x2D, "1F 1F"},
+    {13, 0x2E, "1F 1F 1F 1F 1F 1F"}, {14, 0x1D, "CF"}, {15, 0x1D, "FF 1F"}, {16, 0x40, "FF FF FF FF 0F FF FF FF FF"}, {17, 0x41, "FF FF FF 1F FF FF F1"},
+    {18, 0x42, "1F FF"}, {19, 0x43, "FF FF FF FF FF FF FF FF"}, {20, 0x44, "FF FF FF FF FF FF FF FF FF"}, {21, 0x45, "FF FF"}, {24, 0x00, "FF FF FF FF"},
+    {25, 0x01, "01"}, {26, 0x01, "01 07"}, {27, 0x02, "F3 0F"}, {28, 0x02, "F3 0F 1F"}, {31, 0x0F, "01"}, {33, 0x11, "83 FF FF FF FF FF FF FF"},
+    {34, 0x15, "FF FF FF FF FF FF"}, {35, 0x16, "3F"}, {38, 0x1A, "0F"}, {39, 0x1B, "FF FF FF FF 03 FF FF FF"}};
+
+/* Arguments that not all of their bits' numbers are good for: kind, byte of the frame, low bit, ones; and the codes. */
+static const struct {
+    uint8_t kind, byte, low, ones;
+    const char *codes;
+} coded[] = {{1, 2, 4, 15, "5 6 7 8 9 10 11 12"}, {1, 3, 4, 15, "0 1 2 3 4 5 6 7 8 9"}, {1, 3, 0, 3, "0 1"}, {7, 4, 0, 255, "0 1 16"},
+    {11, 2, 4, 15, "0 1 2 3 4 5 6 7 8"}, {14, 2, 6, 3, "0 1 2"}, {17, 4, 0, 255, "0 8 16 24 32"}, {17, 5, 2, 3, "0 1 2"},
+    {17, 8, 4, 15, "0 1 2 3 4 9 10 11 12"}, {33, 2, 0, 3, "0 1 2"}, {35, 2, 4, 3, "0 1 2"}, {35, 2, 0, 15, "0 1 2 3 4"}, {39, 6, 0, 3, "0 1 2"},
+    {16, 7, 0, 255, "0 17 18 19 20 21 23 24 25 26 27 28 29 30 31 32 33 34 35 36 37 38 39 64 81 82 83 84 85 86 87 88 89 90 91 92 93 94 95 96 97 98 99 100 "
+        "101 102 103 128 136 144 152 153 154 155 156 157 158 159 160 161 162 163 164 165 166 167 192 200 208 209 210 211 212 213 215 216 217 218 219 220 "
+        "222 223 224 225 226 227 228 229 230 231 255"}};
+
+static bool has_codes(uint8_t kind, const uint8_t *frame) {
+    for (size_t i = 0; i < sizeof coded / sizeof *coded; i++) {
+        uint64_t codes[91];
+        if (coded[i].kind != kind) continue;
+        size_t n = numbers(coded[i].codes, codes), at = 0;
+        while (at < n && codes[at] != (uint64_t)(frame[coded[i].byte] >> coded[i].low & coded[i].ones)) at++;
+        if (at == n) return false;
+    }
+    return kind != 20 || frame[10] % 128 <= 64;
+}
+
+/* Whether the bytes are a frame of that slot's kind; they end where such a frame does. */
+static bool decodes(size_t s, const uint8_t *frame) {
+    uint8_t bits[12];
+    size_t n = hex(settings[s].bits, bits);
+    if (frame[0] != 2 || frame[1] != settings[s].opcode) return false;
+    for (size_t i = 0; i < n; i++)
+        if (frame[2 + i] & ~bits[i]) return false;
+    return has_codes(settings[s].kind, frame);
+}
+
+static size_t word(const uint8_t *at) {
+    return at[0] << 8 | at[1];
+}
+
+static size_t length_of(size_t s) {
+    uint8_t bits[12];
+    return 2 + hex(settings[s].bits, bits);
+}
+
+/* Where the frame of a kind begins; 0 where there is none. */
+static size_t offset_of(const uint8_t *book, uint64_t kind) {
+    return word(book + 4 + 2 * slot(kind));
+}
+
+/* Each byte between head and end belongs to one frame, and each frame is of its slot's kind. */
+static bool is_tiled(const uint8_t *book, size_t end) {
+    bool taken[LONGEST] = {false};
+    size_t count = 0;
+    for (size_t s = 0; s < SLOTS; s++) {
+        size_t at = word(book + 4 + 2 * s);
+        if (!at) continue;
+        if (at < HEAD || at + length_of(s) > end || !decodes(s, book + at)) return false;
+        for (size_t i = at; i < at + length_of(s); i++) {
+            if (taken[i]) return false;
+            taken[i] = true;
+        }
+        count++;
+    }
+    for (size_t i = HEAD; i < end; i++)
+        if (!taken[i]) return false;
+    return count == book[1];
+}
+
+/* 11, 10 or 16, or 0 for a book that calls take. */
+static uint32_t fault(const uint8_t *book, size_t n) {
+    static const uint8_t forms[][2] = {{5, 6}, {25, 26}, {27, 28}};
+    if (n < HEAD || n > MOST) return 11;
+    size_t end = word(book + 2);
+    if (book[0] != 1 || end < HEAD || end > n || !is_tiled(book, end)) return 10;
+    for (size_t i = end; i < n; i++)
+        if (book[i]) return 10;
+    for (size_t i = 0; i < 3; i++)
+        if (offset_of(book, forms[i][0]) && offset_of(book, forms[i][1])) return 16;
+    return 0;
+}
+
+/* ---- the rules a second time */
+
+/* The first that frames of kinds 1, 2 and 4 break; 0 where they break none. */
+static uint64_t broken(const uint8_t *modulation, const uint8_t *packet, const uint8_t *sync) {
+    unsigned sf = modulation[2] >> 4, width = modulation[2] & 15, rate = modulation[3] >> 4;
+    uint64_t hz = width == 4 ? 125000 : 250000;
+    bool is_long = 1000 * ((uint64_t)1 << sf) >= 16 * hz;
+    if (sf < 7 || sf > 12) return 1;
+    if (width != 4 && width != 5) return 2;
+    if (rate < 1 || rate > 4) return 3;
+    if (packet[5] >> 2 & 1) return 4;
+    if (!(packet[5] >> 1 & 1)) return 5;
+    if (sync[2] != 0x12) return 6;
+    return (modulation[3] & 3) == is_long ? 0 : 7;
+}
+
+static hb_answer wanted(const uint8_t *book, size_t n) {
+    uint32_t why = fault(book, n);
+    if (why) return (hb_answer){.refusal = why};
+    size_t modulation = offset_of(book, 1), packet = offset_of(book, 2), sync = offset_of(book, 4);
+    if (!modulation || !packet || !sync) return (hb_answer){.refusal = 22};
+    return (hb_answer){.value = broken(book + modulation, book + packet, book + sync)};
+}
+
+/* ---- calls */
+
+/* How often each answer came: yes, the rules, 11, 10, 16 and 22. */
+static uint64_t met[ANSWERS];
+
+static hb_answer tried(const uint8_t *book, size_t n) {
+    hb_answer right = wanted(book, n), got = hb_profile(lend_const(book, n), n);
+    lent--;
+    same_answer(got, right.refusal, right.place, right.value);
+    met[right.refusal == 0 ? right.value : right.refusal == 11 ? 8 : right.refusal == 10 ? 9 : right.refusal == 16 ? 10 : 11]++;
+    return got;
+}
+
+typedef struct {
+    uint64_t kind;
+    size_t len;
+    uint8_t bytes[12];
+} held;
+
+/* A book before it is bytes. */
+static struct {
+    size_t count;
+    held frames[SLOTS];
+} list;
+
+static void add(uint64_t kind, const char *frame) {
+    list.frames[list.count].kind = kind;
+    list.frames[list.count].len = hex(frame, list.frames[list.count].bytes);
+    list.count++;
+}
+
+static size_t end_of_list(void) {
+    size_t end = HEAD;
+    for (size_t i = 0; i < list.count; i++) end += list.frames[i].len;
+    return end;
+}
+
+static void written(uint8_t *book, size_t n) {
+    size_t at = HEAD;
+    memset(book, 0, n);
+    book[0] = 1;
+    book[1] = list.count;
+    for (size_t i = 0; i < list.count; at += list.frames[i++].len) {
+        book[4 + 2 * slot(list.frames[i].kind)] = at >> 8;
+        book[5 + 2 * slot(list.frames[i].kind)] = at;
+        memcpy(book + at, list.frames[i].bytes, list.frames[i].len);
+    }
+    book[2] = at >> 8;
+    book[3] = at;
+}
+
+/* ---- by hand */
+
+/* The three frames in this order, in a book that they fill; an empty text is a frame that is missing. */
+static void three(const char *modulation, const char *packet, const char *sync, uint32_t refusal, uint64_t rule) {
+    uint8_t book[HEAD + 13];
+    list.count = 0;
+    if (*modulation) add(1, modulation);
+    if (*packet) add(2, packet);
+    if (*sync) add(4, sync);
+    written(book, sizeof book);
+    trying("hb_profile", modulation, rule);
+    same_answer(tried(book, sizeof book), refusal, 0, rule);
+}
+
+static void by_hand(void) {
+    three("02 20 B4 11", "02 21 00 08 FF 02", "02 23 12", 0, 0);
+    three("02 20 B4 10", "02 21 00 08 FF 02", "02 23 12", 0, 7);
+    three("02 20 A4 11", "02 21 00 08 FF 02", "02 23 12", 0, 7);
+    three("02 20 B5 10", "02 21 00 08 FF 02", "02 23 12", 0, 0);
+    three("02 20 C5 11", "02 21 00 08 FF 02", "02 23 12", 0, 0);
+    three("02 20 C4 41", "02 21 00 08 FF 02", "02 23 12", 0, 0);
+    three("02 20 74 00", "02 21 00 08 FF 02", "02 23 12", 0, 3);
+    three("02 20 74 50", "02 21 00 08 FF 02", "02 23 12", 0, 3);
+    /* The first is told, whatever else is wrong. */
+    three("02 20 66 51", "02 21 00 08 FF 04", "02 23 34", 0, 1);
+    three("02 20 76 51", "02 21 00 08 FF 04", "02 23 34", 0, 2);
+    three("02 20 74 51", "02 21 00 08 FF 04", "02 23 34", 0, 3);
+    three("02 20 74 11", "02 21 00 08 FF 04", "02 23 34", 0, 4);
+    three("02 20 74 11", "02 21 00 08 FF 00", "02 23 34", 0, 5);
+    three("02 20 74 11", "02 21 00 08 FF 02", "02 23 34", 0, 6);
+    three("02 20 74 11", "02 21 00 08 FF 02", "02 23 12", 0, 7);
+    /* 22 before any rule, and where all that there is keeps them. */
+    for (unsigned held = 0; held < 7; held++)
+        for (unsigned is_good = 0; is_good < 2; is_good++)
+            three(!(held & 1) ? "" : is_good ? "02 20 74 10" : "02 20 66 51", !(held & 2) ? "" : is_good ? "02 21 00 08 FF 02" : "02 21 00 08 FF 04",
+                !(held & 4) ? "" : is_good ? "02 23 12" : "02 23 34", 22, 0);
+    trying("hb_profile", "null", 0);
+    same_answer(hb_profile(NULL, 0), 11, 0, 0);
+}
+
+static void good_list(void) {
+    list.count = 0;
+    add(4, "02 23 12"), add(2, "02 21 00 08 FF 02"), add(1, "02 20 B4 11");
+}
+
+/* A good book in buffers of every length; and with both forms of a setting, with and without the kinds that count. */
+static void buffers(void) {
+    static uint8_t book[LONGEST];
+    static const uint8_t forms[] = {5, 25, 27};
+    good_list();
+    written(book, sizeof book);
+    for (size_t n = 0; n <= sizeof book; n++) {
+        trying("hb_profile", "length", n);
+        same_answer(tried(book, n), n < HEAD || n > MOST ? 11 : n < HEAD + 13 ? 10 : 0, 0, 0);
+    }
+    for (size_t i = 0; i < 2 * sizeof forms; i++) {
+        good_list();
+        list.count = i % 2 ? 3 : 1;
+        add(forms[i / 2], rows[forms[i / 2] - 1].frame);
+        add(forms[i / 2] + 1u, rows[forms[i / 2]].frame);
+        written(book, 120);
+        trying("hb_profile", "both forms", forms[i / 2]);
+        same_answer(tried(book, 120), 16, 0, 0);
+        book[119] = 1;
+        same_answer(tried(book, 120), 10, 0, 0);
+        same_answer(tried(book, 61), 11, 0, 0);
+    }
+}
+
+/* ---- every combination, and random books */
+
+/* A random number, and none of the other tests'. */
+static uint64_t some(void) {
+    static uint64_t state = 2026;
+    return next_of(&state);
+}
+
+/* Frames of kinds 1, 2 and 4 with these arguments; those that no rule looks at are any. */
+static void add_lora(unsigned sf, unsigned width, unsigned rate, unsigned ldro, unsigned header, unsigned crc, unsigned sync) {
+    add(1, "02 20 00 00"), add(2, "02 21 00 00 00 00"), add(4, "02 23 00");
+    uint8_t *modulation = list.frames[list.count - 3].bytes, *packet = list.frames[list.count - 2].bytes;
+    modulation[2] = sf << 4 | width;
+    modulation[3] = rate << 4 | (some() & 3) << 2 | ldro;
+    for (size_t i = 2; i < 5; i++) packet[i] = some();
+    packet[5] = header << 2 | crc << 1 | (some() & 1);
+    list.frames[list.count - 1].bytes[2] = sync;
+}
+
+static void combinations(void) {
+    uint8_t book[HEAD + 13];
+    memset(met, 0, sizeof met);
+    for (unsigned n = 0; n < 8 * 16 * 10 * 16; n++) {
+        list.count = 0;
+        add_lora(5 + n % 8, n / 8 % 16, n / 128 % 10, n / 1280 % 2, n / 2560 % 2, n / 5120 % 2, n / 10240 ? 0x12 : 0x34);
+        written(book, sizeof book);
+        trying("hb_profile", "combination", n);
+        tried(book, sizeof book);
+    }
+    /* Six spreading factors, two widths, four rates. */
+    same("combinations that keep all rules", met[0], 48);
+}
+
+static bool holds(uint64_t kind) {
+    for (size_t i = 0; i < list.count; i++)
+        if (list.frames[i].kind == kind) return true;
+    return false;
+}
+
+static bool rarely(void) {
+    return some() % 12 == 0;
+}
+
+/* Most keep most rules; some lack a kind, some have both forms of a setting; other settings stand between, in any order. */
+static void any_list(void) {
+    unsigned sf = rarely() ? 5 + some() % 8 : 7 + some() % 6, width = rarely() ? some() % 16 : 4 + some() % 2;
+    unsigned due = (sf == 11 && width == 4) || (sf == 12 && (width == 4 || width == 5));
+    list.count = 0;
+    add_lora(sf, width, rarely() ? some() % 10 : 1 + some() % 4, rarely() ? !due : due, rarely(), !rarely(), rarely() ? some() % 256 : 0x12);
+    for (size_t i = 3; i > 0; i--)
+        if (some() % 24 == 0) list.frames[i - 1] = list.frames[--list.count];
+    for (size_t more = some() % 2 ? some() % 6 : some() % 40; more > 0; more--) {
+        const row *r = &rows[some() % KINDS];
+        if (slot(r->kind) < 0 || r->kind == 1 || r->kind == 2 || r->kind == 4 || holds(r->kind)) continue;
+        if (other_form(r->kind) && holds(other_form(r->kind)) && some() % 4) continue;
+        add(r->kind, some() % 2 ? r->frame : r->other);
+    }
+    for (size_t i = list.count; i > 1; i--) {
+        size_t j = some() % i;
+        held last = list.frames[i - 1];
+        list.frames[i - 1] = list.frames[j];
+        list.frames[j] = last;
+    }
+}
+
+/* Bytes that are wrong, missing or too many; some leave a book that is one still. Tells the new length. */
+static size_t damaged(uint8_t *book, size_t n) {
+    size_t at = some() % n, slots[] = {4 + 2 * (some() % SLOTS), 4 + 2 * (some() % SLOTS)};
+    switch (some() % 8) {
+    case 0: book[at] ^= 1 << some() % 8; return n;
+    case 1: book[some() % 4] = some(); return n;
+    case 2: book[HEAD + some() % (n - HEAD + 1)] = some(); return n;
+    case 3: return at;
+    case 4: memset(book + n, 0, LONGEST - n); return n + some() % (LONGEST - n + 1);
+    case 5: memcpy(book + slots[0], book + slots[1], 2); return n;
+    case 6: memset(book + slots[0], 0, 2); return n;
+    default: for (size_t i = 0; i < n; i++) book[i] = some(); return n;
+    }
+}
+
+static void any_book(void) {
+    static uint8_t book[LONGEST + 1];
+    any_list();
+    size_t n = end_of_list() + (some() % 2 ? some() % 16 : 0);
+    if (some() % 32 == 0) n += some() % (LONGEST - n + 1);
+    written(book, n);
+    if (some() % 4 == 0) n = damaged(book, n);
+    trying("hb_profile", "a random book, length", n);
+    tried(book, n);
+}
+
+void test_profiles(void) {
+    by_hand();
+    buffers();
+    combinations();
+    memset(met, 0, sizeof met);
+    for (unsigned i = 0; i < 200000; i++) any_book();
+    for (size_t i = 0; i < ANSWERS; i++) {
+        trying("hb_profile", "answers that were met", i);
+        same("whether it came often", met[i] > 1000, 1);
+    }
+    test_rust_profiles();
+}
