@@ -67,7 +67,7 @@ setting-latest f a = by f (slotOf-length f a) (size-low (slotOf f) a)
 
 -- ---- a call on the list
 
--- a call that is refused, or is not about a slot, leaves its latest frame
+-- a call that is not about a slot leaves its latest frame, and so does one that is refused
 others-leave : (s : ℕ) (c : Call) (a : Answer) (x : Latest) → isAbout s c ≡ false → heardTo s c a x ≡ x
 others-leave s c (book.Refused y) x e = refl
 others-leave s Make (book.Done n) x e = absurd (false≢true (sym e))

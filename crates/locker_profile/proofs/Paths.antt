@@ -52,7 +52,7 @@ module _ (r t : Bool) (e : r ≡ not t) where
 pub chips-most : (sf : ℕ) → sf ≤ 12 → 2 ^ sf ≤ 4096
 chips-most sf h = pow-mono {i = sf} {j = 12} h
 
--- and a shift of 64 bits loses none of them
+-- and 64 bits hold them
 pub chips-are : (sf : ℕ) → sf ≤ 12 → (1 * 2 ^ sf) % 18446744073709551616 ≡ 2 ^ sf
 chips-are sf h = omega (arith, chips-most sf h)
 
