@@ -45,6 +45,7 @@ loraOf modulation packet sync =
 abbrev pub frameFor : ℕ → List (List ℕ) → List ℕ
 frameFor k fs = frameOf (slotFor k) fs
 
+-- and so in a list, where it holds all three
 abbrev pub loraIn : List (List ℕ) → Lora
 loraIn fs = loraOf (frameFor 1 fs) (frameFor 2 fs) (frameFor 4 fs)
 
@@ -55,6 +56,7 @@ abbrev pub judged : ℕ → Answer
 judged zero = Yes
 judged (suc n) = Broken (suc n)
 
+-- what the rules say of seven arguments
 abbrev pub answered : Lora → Answer
 answered x = judged (firstBroken 1 rules x)
 

@@ -39,6 +39,7 @@ unfoldable pub widthIn : List LoraBw → ℕ → Width
 widthIn [] c = over 0 1
 widthIn (w ∷ ws) c = cond (eqb (loraBwCode w) c) (exactWidth w) (widthIn ws c)
 
+-- the exact width of a code (REFERENCE, "Widths")
 abbrev pub widthOf : ℕ → Width
 widthOf c = widthIn (valuesOf loraBw) c
 

@@ -189,7 +189,7 @@ fn judge(lora: Lora) -> Answer
 
 // ---- the answer
 
-// Whether a book keeps the rules. It is refused as every call on it would be, and then where it lacks kind 1, 2 or 4.
+// Whether a book keeps the rules. It is refused as an ask of it would be, and then where it lacks kind 1, 2 or 4.
 pub fn check(book: &[u8]) -> Answer
     ensures { λ r. ⌜ r ≡ answerFor (now (book .entry)) ⌝ }
 {
