@@ -1,10 +1,13 @@
 // The book, ours beside Rust's: each call on many books that were made before the clock starts.
-enum { ROOM = 300, SETTINGS = 29, HELD = 26, POOL = 16, REPLAY = 256 };
+// A header has an offset for each slot, an owner table an entry, and frames start behind the header. A full book holds one form of each
+// setting, with at most so many bytes together; the buffers have room for more.
+enum { SETTINGS = 29, PAIRS = 3, HELD = SETTINGS - PAIRS, SLOTS = 29, START = 4 + 2 * SLOTS, MOST_BYTES = 169 };
+enum { ROOM = START + MOST_BYTES + 69, POOL = 16, REPLAY = 256 };
 
 static const int settings[SETTINGS] = {1, 2, 3, 4, 5, 6, 7, 11, 12, 13, 14, 15, 16, 17, 18, 19, 20, 21, 24, 25, 26, 27, 28, 31, 33, 34, 35,
     38, 39};
 // Where the longer forms of 5, 25 and 27 stand in that list; a book holds one of the two.
-static const int longer[3] = {5, 20, 22};
+static const int longer[PAIRS] = {5, 20, 22};
 typedef struct { u8 bytes[12]; int size; } frame;
 static frame pool[SETTINGS][POOL];
 
@@ -49,7 +52,7 @@ static void make_pool(void) {
 }
 
 static int other_form(int s) {
-    for (int i = 0; i < 3; i++) {
+    for (int i = 0; i < PAIRS; i++) {
         if (s == longer[i]) return s - 1;
         if (s == longer[i] - 1) return s + 1;
     }
@@ -96,7 +99,7 @@ static void make_books(int n, int is_new) {
 // Full books in which a longer form stands in the middle: it gives way to the shorter one, and that to a longer one.
 static void make_swaps(void) {
     for (int i = 0; i < SETS; i++) {
-        int order[HELD], at = 0, s = longer[next() % 3];
+        int order[HELD], at = 0, s = longer[next() % PAIRS];
         any_order(order);
         while (order[at] != s && order[at] != s - 1) at++;
         order[at] = order[HELD / 2];
@@ -168,7 +171,7 @@ static void books(void) {
     compare("book of 26, ask", hb_asks, rs_asks);
     compare("book of 26, replay", hb_replays, rs_replays);
     make_swaps(), compare("book of 26, swap to short and back", hb_swaps, rs_swaps);
-    asked_empty("empty book of 62 bytes, ask", 62);
+    asked_empty("empty book of 62 bytes, ask", START);
     asked_empty("empty book of 1024 bytes, ask", 1024);
     asked_empty("empty book of 2048 bytes, ask", 2048);
     asked_empty("empty book of 4096 bytes, ask", 4096);

@@ -6,20 +6,24 @@ use crate::decoder::decode;
 pub type Refusal = (u8, u8);
 pub type Answer = Result<usize, Refusal>;
 
-const START: usize = 62;
+// The kinds of commands, and the layout: its version, and a slot for each offset of the header, behind which the frames start.
+pub const KINDS: usize = 39;
+const VERSION: u8 = 1;
+const SLOTS: usize = 29;
+const START: usize = 4 + 2 * SLOTS;
 const LONGEST: usize = 4096;
 const NOT_WELL_FORMED: Refusal = (10, 0);
 
-// The kind of each slot, and the length of its frames.
+// The kind of each slot that a setting has, and the length of its frames.
 const SETTINGS: [(u8, u8); 29] = [
     (1, 4), (2, 6), (3, 4), (4, 3), (5, 8), (6, 12), (7, 9), (11, 11), (12, 4), (13, 8), (14, 3), (15, 4), (16, 11), (17, 9), (18, 4),
     (19, 10), (20, 11), (21, 4), (24, 6), (25, 3), (26, 4), (27, 4), (28, 5), (31, 3), (33, 10), (34, 8), (35, 3), (38, 3), (39, 10),
 ];
 
-const SLOTS: [u8; 40] = {
-    let mut slots = [255; 40];
+const SLOT_OF: [u8; KINDS + 1] = {
+    let mut slots = [255; KINDS + 1];
     let mut slot = 0;
-    while slot < 29 {
+    while slot < SETTINGS.len() {
         slots[SETTINGS[slot].0 as usize] = slot as u8;
         slot += 1;
     }
@@ -38,7 +42,7 @@ fn other_form(slot: usize) -> Option<usize> {
 }
 
 pub fn slot_of(kind: u64) -> Result<usize, Refusal> {
-    match SLOTS.get(kind as usize) {
+    match SLOT_OF.get(kind as usize) {
         Some(slot) if *slot != 255 => Ok(*slot as usize),
         _ => Err((13, 0)),
     }
@@ -56,7 +60,7 @@ fn set_word(book: &mut [u8], at: usize, value: usize) {
 struct Sound {
     end: usize,
     count: usize,
-    frames: [(u16, u8); 29],
+    frames: [(u16, u8); SETTINGS.len()],
 }
 
 fn judge(book: &[u8]) -> Result<Sound, Refusal> {
@@ -64,12 +68,12 @@ fn judge(book: &[u8]) -> Result<Sound, Refusal> {
         return Err((11, 0));
     }
     let end = word(book, 2);
-    if book[0] != 1 || end < START || end > book.len() || book[end..].iter().any(|b| *b != 0) {
+    if book[0] != VERSION || end < START || end > book.len() || book[end..].iter().any(|b| *b != 0) {
         return Err(NOT_WELL_FORMED);
     }
-    let mut frames = [(0, 0); 29];
+    let mut frames = [(0, 0); SETTINGS.len()];
     let mut count = 0;
-    for slot in 0..29 {
+    for slot in 0..SETTINGS.len() {
         let offset = word(book, 4 + 2 * slot);
         if offset != 0 {
             frames[count] = (offset as u16, slot as u8);
@@ -101,7 +105,7 @@ fn judge(book: &[u8]) -> Result<Sound, Refusal> {
 
 fn blank(book: &mut [u8]) {
     book.fill(0);
-    book[0] = 1;
+    book[0] = VERSION;
     set_word(book, 2, START);
 }
 

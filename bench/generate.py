@@ -12,6 +12,7 @@ import re
 import sys
 
 CRATES = ["cmd_lora", "cmd_fsk", "cmd_common"]
+KINDS = 39  # builders that they have
 RUST_ENUM = {"LoraCadExitMode": "cmd_lora::ExitMode", "CadExitMode": "cmd_common::ExitMode"}
 WIDTH = {"u8": 8, "u16": 16, "u32": 32, "u64": 64, "bool": 1}
 SOURCE = "../lr2021"  # tests/rust-source links it; rust.rs is compiled in OUT
@@ -114,7 +115,7 @@ def main():
             if name != "Ordering":
                 enums[(crate, name)] = variants
         builders += b
-    assert [b[0] for b in builders] == list(range(1, 40)), "a builder is missing"
+    assert [b[0] for b in builders] == list(range(1, KINDS + 1)), "a builder is missing"
     os.makedirs(f"{out}/port/src", exist_ok=True)
     open(f"{out}/port/src/lib.rt", "w", encoding="utf8").write(port(enums, builders))
     open(f"{out}/rust.rs", "w", encoding="utf8").write(rust(enums, builders))

@@ -1,6 +1,6 @@
 // A side's calls beside those of the whole book, both ours: on the books of bench/book.c, with an owner table by which side 1 has every setting
 // and the whole room, so that both give the same; and a side's clear beside the removals that it makes.
-static u8 owners[SETTINGS];
+static u8 owners[SLOTS];
 // The kinds that side 1 holds of each book, in ascending order, and how many there are.
 static u64 mine[SETS][HELD];
 static int mine_count[SETS];
@@ -9,15 +9,14 @@ u64 hb_side_put(u8 *, u64, const u8 *, u64, u64, u64, u64, const u8 *, u64), hb_
 u64 hb_side_ask(const u8 *, u64, const u8 *, u64, u64, u64, u64, u64, u8 *, u64), hb_side_clear(u8 *, u64, const u8 *, u64, u64, u64, u64);
 u64 hb_side_replay(const u8 *, u64, const u8 *, u64, u64, u64, u64, u8 *, u64);
 
-enum { START = 4 + 2 * SETTINGS };
 // What stands between book and request: the table, both quotas, and that side 1 calls.
-#define ALL owners, SETTINGS, ROOM - START, 0, 1
-#define HALF owners, SETTINGS, (ROOM - START) / 2, (ROOM - START) / 2, 1
+#define ALL owners, SLOTS, ROOM - START, 0, 1
+#define HALF owners, SLOTS, (ROOM - START) / 2, (ROOM - START) / 2, 1
 static u64 side_puts(int i) { return hb_side_put(book[i], ROOM, ALL, given_frame[i].bytes, given_frame[i].size); }
 static u64 side_removes(int i) { return hb_side_remove(book[i], ROOM, ALL, given_kind[i]); }
 static u64 side_asks(int i) { return hb_side_ask(book[i], ROOM, ALL, given_kind[i], lent, 12); }
 static u64 side_replays(int i) { return hb_side_replay(book[i], ROOM, ALL, lent, REPLAY); }
-static u64 side_asks_empty(int i) { return hb_side_ask(empty, START, owners, SETTINGS, 0, 0, 1, 1 + i % 7, lent, 12); }
+static u64 side_asks_empty(int i) { return hb_side_ask(empty, START, owners, SLOTS, 0, 0, 1, 1 + i % 7, lent, 12); }
 static u64 side_clears(int i) { return hb_side_clear(book[i], ROOM, HALF); }
 static u64 hb_removes_mine(int i) {
     u64 said = 0;
@@ -26,7 +25,7 @@ static u64 hb_removes_mine(int i) {
 }
 
 static void own_all(void) {
-    for (int s = 0; s < SETTINGS; s++) owners[s] = 1;
+    for (int s = 0; s < SLOTS; s++) owners[s] = 1;
 }
 
 // Every other setting is side 1's, in either form: of a full book it holds half.

@@ -66,6 +66,7 @@ ROWS = [
     (38, 0x021A, 3, [("2.3-0", None)]),
     (39, 0x021B, 10, [("2-4", None), ("5", None), ("6.1-0", THREE), ("7-9", None)]),
 ]
+KINDS = len(ROWS)  # their numbers are 1 to this one
 
 
 def bits(place):

@@ -11,10 +11,12 @@ from fractions import Fraction
 import dump
 
 ACTIONS = (8, 9, 10, 22, 23, 29, 30, 32, 36, 37)
-KINDS = [kind for kind in range(1, 40) if kind not in ACTIONS]  # the settings, by slot
+SETTINGS = [kind for kind in range(1, dump.KINDS + 1) if kind not in ACTIONS]  # by slot
 LENGTHS = {kind: length for kind, _, length, _ in dump.ROWS}
 FORMS = ((5, 6), (25, 26), (27, 28))
-FIRST, MOST = 62, 4096
+# The layout: its version, and a slot for each offset of the header, behind which the frames start. A book has START to MOST bytes.
+VERSION, SLOTS = 1, 29
+START, MOST = 4 + 2 * SLOTS, 4096
 
 # Each width's code with its exact width in Hz.
 WIDTHS = {0: Fraction(15625, 2), 1: 15625, 2: 31250, 3: 62500, 4: 125000, 5: 250000, 6: 500000, 7: 1000000, 8: Fraction(10**6, 96),
@@ -36,15 +38,15 @@ def decoded(frame):
 
 def settings(book):
     """The arguments of each kind whose slot leads to a frame of it, and whether the book is well formed."""
-    places = {kind: number(book, 4 + 2 * slot) for slot, kind in enumerate(KINDS)}
-    at, held, is_tiled = FIRST, {}, True
+    places = {kind: number(book, 4 + 2 * slot) for slot, kind in enumerate(SETTINGS)}
+    at, held, is_tiled = START, {}, True
     for place, kind in sorted((place, kind) for kind, place in places.items() if place):
         found, values = decoded(bytes(book[place:place + LENGTHS[kind]]))
         is_tiled = is_tiled and place == at and found == kind
         at += LENGTHS[kind]
         if found == kind:
             held[kind] = values
-    return held, is_tiled and book[0] == 1 and book[1] == len(held) and number(book, 2) == at and at <= len(book) and not any(book[at:])
+    return held, is_tiled and book[0] == VERSION and book[1] == len(held) and number(book, 2) == at and at <= len(book) and not any(book[at:])
 
 
 # ---- the rules
@@ -68,9 +70,9 @@ RULES = (
 
 def wrongs(book):
     """All that is wrong with a book, in the order in which it is looked for; the first is the answer. Behind a refusal stands what is wrong with the
-    frames that the slots lead to, so that a test can tell which comes first; fewer than 62 bytes have no slots."""
-    found = [] if FIRST <= len(book) <= MOST else ["refused 11"]
-    if len(book) < FIRST:
+    frames that the slots lead to, so that a test can tell which comes first; fewer than START bytes have no slots."""
+    found = [] if START <= len(book) <= MOST else ["refused 11"]
+    if len(book) < START:
         return found
     held, is_well_formed = settings(book)
     found += [] if is_well_formed else ["refused 10"]

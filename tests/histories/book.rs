@@ -1,5 +1,5 @@
 // The book as a plain list of frames, and the bytes that the format gives it. Written from the rules alone, without the source.
-use crate::model::{commands, decode, Decoded};
+use crate::model::{commands, decode, Decoded, KINDS};
 use crate::record::Record;
 
 #[derive(Clone, Copy, PartialEq)]
@@ -25,11 +25,23 @@ pub struct Frame {
 
 // "Actions, never kept: 8, 9, 10, 22, 23, 29, 30, 32, 36, 37. The other 29 kinds are settings; slot numbers 0 to 28 follow kind order."
 pub const ACTIONS: [u64; 10] = [8, 9, 10, 22, 23, 29, 30, 32, 36, 37];
-pub const SETTINGS: [u64; 29] =
+pub const SETTINGS: [u64; KINDS as usize - ACTIONS.len()] =
     [1, 2, 3, 4, 5, 6, 7, 11, 12, 13, 14, 15, 16, 17, 18, 19, 20, 21, 24, 25, 26, 27, 28, 31, 33, 34, 35, 38, 39];
 
 // The kinds that are one setting in two lengths, the shorter form first.
 pub const FORMS: [(u64, u64); 3] = [(5, 6), (25, 26), (27, 28)];
+
+// The layout: its version, and how many slots there are. A header has an offset for each, and an owner table an entry; frames start behind the
+// header.
+pub const VERSION: u8 = 1;
+pub const SLOTS: usize = 29;
+pub const START: usize = 4 + 2 * SLOTS;
+
+// A book that holds every setting, in the longer form where there are two: its frames, their bytes together, its own length, that of its replay.
+pub const MOST_FRAMES: usize = SETTINGS.len() - FORMS.len();
+pub const MOST_BYTES: usize = 169;
+pub const FULL: usize = START + MOST_BYTES;
+pub const FULL_REPLAY: usize = MOST_BYTES + MOST_FRAMES;
 
 // The form of its setting that a kind is not.
 pub fn other_form(kind: u64) -> Option<u64> {
@@ -48,8 +60,8 @@ pub fn length(kind: u64) -> usize {
 // "byte 0 version 1, byte 1 count, bytes 2-3 end offset, then 29 two-byte offsets by slot (0 = absent), high byte first; frames from 62 in
 // order of first entry; zeros from the end on"
 pub fn image(frames: &[Frame], length: usize) -> Vec<u8> {
-    let mut bytes = vec![0; 62];
-    bytes[0] = 1;
+    let mut bytes = vec![0; START];
+    bytes[0] = VERSION;
     bytes[1] = frames.len() as u8;
     for frame in frames {
         let at = 4 + 2 * slot(frame.kind).expect("a setting");
@@ -73,11 +85,11 @@ fn well_formed(bytes: &[u8]) -> Option<Vec<Frame>> {
     let mut present: Vec<(usize, u64)> =
         SETTINGS.iter().enumerate().map(|(s, kind)| (word(bytes, 4 + 2 * s), *kind)).filter(|(offset, _)| *offset != 0).collect();
     present.sort();
-    if bytes[0] != 1 || bytes[1] as usize != present.len() || end > bytes.len() || bytes[end..].iter().any(|b| *b != 0) {
+    if bytes[0] != VERSION || bytes[1] as usize != present.len() || end > bytes.len() || bytes[end..].iter().any(|b| *b != 0) {
         return None;
     }
     let mut frames = vec![];
-    let mut at = 62;
+    let mut at = START;
     for (offset, kind) in present {
         let next = at + length(kind);
         if offset != at || next > end {
@@ -99,7 +111,7 @@ fn holds_both_forms(frames: &[Frame]) -> bool {
 
 // What is wrong with a buffer is told in this order: its length, then its bytes, then a setting that they hold in both forms.
 pub fn judged(bytes: &[u8]) -> Result<Vec<Frame>, u8> {
-    if !(62..=4096).contains(&bytes.len()) {
+    if !(START..=4096).contains(&bytes.len()) {
         return Err(11);
     }
     match well_formed(bytes) {
@@ -188,7 +200,7 @@ impl Book {
             Ok(frame) => place(frame, &mut frames),
         }
         // "frames plus 62 would exceed the buffer": those of the list as it is after the put
-        if 62 + weight(&frames) > self.bytes.len() {
+        if START + weight(&frames) > self.bytes.len() {
             return refused(8);
         }
         self.holds(frames)

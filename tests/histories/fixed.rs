@@ -1,8 +1,8 @@
 // Histories whose course is fixed: a technician's, full books, stored books with both forms, sync words of every length, and each swap of forms at the
 // edge of the room.
-use crate::book::{image, length, other_form, Frame, FORMS, SETTINGS};
+use crate::book::{image, length, other_form, Frame, FORMS, FULL, MOST_BYTES, SETTINGS, START, VERSION};
 use crate::frames::{good, Random};
-use crate::make::{History, Size};
+use crate::make::{History, Size, LONG};
 use crate::record::{hex, Record};
 use crate::seen::{Place, LENGTHS, PLACES};
 use std::io::{Result, Write};
@@ -24,9 +24,6 @@ pub struct Edge {
     forms: (u64, u64),
     kinds: Vec<u64>,
 }
-
-// All frames of a book whose settings are in their longer forms take so many bytes.
-const ALL: usize = 169;
 
 // Kinds of such settings, named by their shorter forms, at most one form of each, whose frames take so many bytes together, if there are any.
 pub fn filling(random: &mut Random, bytes: usize, is_such: impl Fn(u64) -> bool) -> Option<Vec<u64>> {
@@ -58,7 +55,7 @@ pub fn filling(random: &mut Random, bytes: usize, is_such: impl Fn(u64) -> bool)
 // and the book is as full as it can be.
 fn edge(random: &mut Random, size: usize, forms: (u64, u64), place: Place, lacks: usize) -> Option<Edge> {
     let (short, long) = forms;
-    let bytes = (size + lacks).checked_sub(62 + length(long))?.min(ALL - length(long));
+    let bytes = (size + lacks).checked_sub(START + length(long))?.min(MOST_BYTES - length(long));
     // Few kinds may be one where the place wants two.
     let mut tries = (0..40).map_while(|_| filling(random, bytes, |kind| kind != short));
     let mut kinds = tries.find(|kinds| match place {
@@ -81,9 +78,9 @@ fn edges(random: &mut Random, size: Size) -> Vec<Edge> {
     for forms in FORMS {
         for place in PLACES {
             for lacks in [0, 1] {
-                let lengths = (62..=260).filter(|n| lacks == 0 || *n < 62 + ALL);
+                let lengths = (START..=LONG).filter(|n| lacks == 0 || *n < FULL);
                 let found = lengths.filter_map(|n| edge(random, n, forms, place, lacks));
-                all.extend(found.take(if size == Size::Sample { 1 } else { 260 }));
+                all.extend(found.take(if size == Size::Sample { 1 } else { LONG }));
             }
         }
     }
@@ -91,7 +88,7 @@ fn edges(random: &mut Random, size: Size) -> Vec<Edge> {
 }
 
 pub fn courses(random: &mut Random, size: Size) -> Vec<Course> {
-    let mut all = vec![Course::Technician, Course::Full(230), Course::Full(231)];
+    let mut all = vec![Course::Technician, Course::Full(FULL - 1), Course::Full(FULL)];
     all.extend(FORMS.map(Course::Both));
     all.push(Course::SyncWords(if size == Size::Sample { LENGTHS.iter().flat_map(|n| [*n, 128 + n]).collect() } else { (0..=255).collect() }));
     all.extend(edges(random, size).into_iter().map(Course::Edge));
@@ -129,7 +126,7 @@ fn replay<W: Write>(on: &mut History<W>) -> Result<()> {
 
 // The receive path with its boost, the frequency, the path without the boost, and the path with it again.
 fn technician<W: Write>(on: &mut History<W>) -> Result<()> {
-    begin(on, 80)?;
+    begin(on, START + 18)?;
     for frame in [&[2, 1, 1, 4][..], &[2, 0, 0x33, 0xBE, 0x27, 0xA0], &[2, 1, 1], &[2, 1, 1, 7]] {
         on.record(Record::Put { frame: frame.to_vec() })?;
         replay(on)?;
@@ -152,10 +149,10 @@ fn full<W: Write>(on: &mut History<W>, size: usize) -> Result<()> {
 
 // Every call but make is refused, with another fault for another reason; what comes next is a new book.
 fn both<W: Write>(on: &mut History<W>, (short, long): (u64, u64)) -> Result<()> {
-    begin(on, 90)?;
+    begin(on, START + 28)?;
     let frames = [short, 4, long].map(|kind| Frame { kind, bytes: good(on.random, kind) });
-    on.poke(0, &image(&frames, 90))?;
-    for version in [1, 2] {
+    on.poke(0, &image(&frames, START + 28))?;
+    for version in [VERSION, VERSION + 1] {
         on.poke(0, &[version])?;
         on.record(Record::Put { frame: vec![2] })?;
         for kind in [4, short, long] {
@@ -174,7 +171,7 @@ fn both<W: Write>(on: &mut History<W>, (short, long): (u64, u64)) -> Result<()> 
 // A sync word is put over another; then the same length is stored in the book, behind its back. One of more than 64 bits is not put, and a book
 // that holds it is refused by every call.
 fn sync_words<W: Write>(on: &mut History<W>, lasts: &[u8]) -> Result<()> {
-    begin(on, 90)?;
+    begin(on, START + 28)?;
     for last in lasts {
         on.record(Record::Make)?;
         for kind in [4, 20, 25] {
@@ -184,8 +181,8 @@ fn sync_words<W: Write>(on: &mut History<W>, lasts: &[u8]) -> Result<()> {
         frame[10] = *last;
         on.record(Record::Put { frame })?;
         replay(on)?;
-        // Behind the header and kind 4 it stands at byte 65.
-        on.poke(75, &[*last])?;
+        // It stands behind the header and kind 4.
+        on.poke(START + length(4) + 10, &[*last])?;
         put(on, 4)?;
         on.record(Record::Ask { kind: 20, output: 11 })?;
         on.record(Record::Replay { output: 40 })?;

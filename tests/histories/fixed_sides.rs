@@ -1,9 +1,10 @@
 // Histories of two sides whose course is fixed: an installer's and an operator's, tables that are wrong in every way, sides over their quotas,
 // stored books with a fault, refusals in their order, the edges of a quota, frames of both sides by turns, and a full book.
-use crate::book::{image, length, weight, Frame, FORMS, SETTINGS};
+use crate::book::{image, length, weight, Frame, FORMS, MOST_BYTES, SETTINGS, SLOTS, START, VERSION};
 use crate::frames::{good, Random};
 use crate::make::{History, Size};
 use crate::make_sides::Sharing;
+use crate::model::KINDS;
 use crate::record::{hex, Call, Record, Table};
 use crate::seen::{Place, PLACES};
 use crate::tables::{by_radio, place_of};
@@ -65,9 +66,12 @@ fn edges(random: &mut Random, size: Size) -> Vec<Course> {
     all
 }
 
+// A buffer for a few frames.
+const FEW: usize = START + 28;
+
 pub fn courses(random: &mut Random, size: Size) -> Vec<Course> {
     let mut all = vec![Course::Story, Course::Tables, Course::Over(1), Course::Over(2)];
-    let lengths = if size == Size::Sample { vec![61, 90] } else { vec![0, 61, 90, 4097] };
+    let lengths = if size == Size::Sample { vec![START - 1, FEW] } else { vec![0, START - 1, FEW, 4097] };
     all.extend(lengths.into_iter().map(Course::Stored));
     all.extend([Course::Order(1), Course::Order(2), Course::Nothing(1), Course::Nothing(2), Course::Amid, Course::Full]);
     all.extend(edges(random, size));
@@ -95,7 +99,7 @@ impl Course {
 fn begin<W: Write>(on: &mut Sharing<W>, quotas: [u64; 2]) -> Result<()> {
     on.table.quotas = quotas;
     let first = on.history.random.byte();
-    on.history.record(Record::Lend { length: 62 + (quotas[0] + quotas[1]) as usize, first })?;
+    on.history.record(Record::Lend { length: START + (quotas[0] + quotas[1]) as usize, first })?;
     on.history.record(Record::Make)
 }
 
@@ -209,8 +213,8 @@ fn wrong_tables(right: &Table, room: u64) -> Vec<Table> {
         with(owners)
     };
     let entries = |n: usize| with(right.owners.iter().copied().chain([1, 2]).take(n).collect());
-    let mut all: Vec<Table> = [0, 28, 30].into_iter().map(entries).collect();
-    all.extend([0, 3, 255].map(|owner| entry(39, owner)));
+    let mut all: Vec<Table> = [0, SLOTS - 1, SLOTS + 1].into_iter().map(entries).collect();
+    all.extend([0, 3, 255].map(|owner| entry(KINDS, owner)));
     all.extend(FORMS.map(|(_, long)| entry(long, 2)));
     let [a, b] = right.quotas;
     // Their sum is past 2^64, and what is left of it in 64 bits is the room.
@@ -254,7 +258,7 @@ fn later<W: Write>(on: &mut Sharing<W>, side: u64) -> Vec<Call> {
     // An action, the other side's kinds, and one of its own for which there is no room.
     frames.extend([8, foreign, unheld_foreign, if side == 1 { 11 } else { 16 }].map(|kind| good(on.history.random, kind)));
     let mut calls: Vec<Call> = frames.into_iter().map(|frame| Call::Put { frame }).collect();
-    for kind in [8, 40, (1 << 32) + held, foreign, unheld_foreign, unheld] {
+    for kind in [8, KINDS + 1, (1 << 32) + held, foreign, unheld_foreign, unheld] {
         calls.extend([Call::Remove { kind }, Call::Ask { kind, output: 0 }, Call::Ask { kind, output: 12 }]);
     }
     let output = length(held);
@@ -303,12 +307,12 @@ fn stored<W: Write>(on: &mut Sharing<W>, size: usize) -> Result<()> {
     let first = on.history.random.byte();
     on.history.record(Record::Lend { length: size, first })?;
     on.history.record(Record::Make)?;
-    let right = Table { owners: by_radio(1), quotas: [size.saturating_sub(82) as u64, 9] };
-    let wrong = Table { owners: vec![1; 28], quotas: right.quotas };
+    let right = Table { owners: by_radio(1), quotas: [size.saturating_sub(START + 20) as u64, 9] };
+    let wrong = Table { owners: vec![1; SLOTS - 1], quotas: right.quotas };
     let mut faults: Vec<Vec<u8>> = vec![vec![]];
-    if size == 90 {
+    if size == FEW {
         let frames = [25, 4, 26].map(|kind| Frame { kind, bytes: good(on.history.random, kind) });
-        faults = vec![vec![2], image(&frames, size)];
+        faults = vec![vec![VERSION + 1], image(&frames, size)];
     }
     for bytes in faults {
         on.history.poke(0, &bytes)?;
@@ -385,7 +389,7 @@ fn amid<W: Write>(on: &mut Sharing<W>) -> Result<()> {
 // Every setting, in the longer form where there are two: both quotas are full, and so is the book. What is held is put again.
 fn full<W: Write>(on: &mut Sharing<W>) -> Result<()> {
     let side_of = |kind: u64| if (16..=21).contains(&kind) { 2 } else { 1 };
-    begin(on, [120, 49])?;
+    begin(on, [MOST_BYTES as u64 - 49, 49])?;
     for kind in SETTINGS {
         on.put(side_of(kind), kind)?;
     }

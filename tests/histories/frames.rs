@@ -1,5 +1,5 @@
 // Random numbers, and random frames made by the checked builder of oracle/model.rs. They are the same on every run and machine: the seed is fixed.
-use crate::model::{checked, commands, Built, Field};
+use crate::model::{checked, commands, Built, Field, KINDS};
 
 // splitmix64.
 pub struct Random(pub u64);
@@ -81,7 +81,7 @@ pub fn damaged(random: &mut Random) -> Vec<u8> {
     if random.percent(20) {
         return strange(random);
     }
-    let kind = random.within(1, 39) as u64;
+    let kind = random.within(1, KINDS as usize) as u64;
     let mut frame = good(random, kind);
     let last = frame.len() - 1;
     match random.below(9) {

@@ -1,12 +1,15 @@
 // Random histories. They are the same on every run and machine: the random numbers have a fixed seed.
-use crate::book::{done, image, length, other_form, Answer, Frame, ACTIONS, FORMS, SETTINGS};
+use crate::book::{done, image, length, other_form, Answer, Frame, ACTIONS, FORMS, FULL, SETTINGS, SLOTS, START, VERSION};
 use crate::file::Records;
 use crate::fixed;
 use crate::frames::{damaged, good, Random};
-use crate::model::commands;
+use crate::model::{commands, KINDS};
 use crate::record::Record;
 use crate::sides::Shared;
 use std::io::{Result, Write};
+
+// Most buffers have at most so many bytes, some more than a full book takes.
+pub const LONG: usize = FULL + 29;
 
 // ---- damage to a book
 
@@ -14,20 +17,20 @@ use std::io::{Result, Write};
 pub fn damage(random: &mut Random, bytes: &[u8], frames: &[Frame]) -> (usize, Vec<u8>) {
     let offset_of = |frame: &Frame| 4 + 2 * crate::book::slot(frame.kind).expect("a setting");
     let at = |place: usize| bytes[place..place + 2].to_vec();
-    let end = u16::from_be_bytes([bytes[2], bytes[3]]);
+    let (start, end) = (START as u16, u16::from_be_bytes([bytes[2], bytes[3]]));
     match random.below(12) {
-        0 => (0, vec![random.one_of(&[0, 2, 3, 255])]),
-        1 => (1, vec![random.one_of(&[bytes[1].wrapping_add(1), bytes[1].wrapping_sub(1), 29, 255])]),
-        2 => (2, random.one_of(&[end + 1, end - 1, 62, 61, 0, bytes.len() as u16, bytes.len() as u16 + 1, 65535]).to_be_bytes().to_vec()),
+        0 => (0, vec![random.one_of(&[0, VERSION + 1, VERSION + 2, 255])]),
+        1 => (1, vec![random.one_of(&[bytes[1].wrapping_add(1), bytes[1].wrapping_sub(1), SETTINGS.len() as u8, 255])]),
+        2 => (2, random.one_of(&[end + 1, end - 1, start, start - 1, 0, bytes.len() as u16, bytes.len() as u16 + 1, 65535]).to_be_bytes().to_vec()),
         3 if (end as usize) < bytes.len() => (random.within(end as usize, bytes.len() - 1), vec![random.one_of(&[1, 128, 255])]),
         3 | 4 => (random.below(bytes.len()), vec![random.byte()]),
-        5 => (random.below(62), vec![random.byte()]),
-        6 if !frames.is_empty() => (random.within(62, end as usize - 1), vec![random.byte()]),
+        5 => (random.below(START), vec![random.byte()]),
+        6 if !frames.is_empty() => (random.within(START, end as usize - 1), vec![random.byte()]),
         // Two offsets swapped, whole header at once.
         7 if frames.len() > 1 => {
             let (a, b) = (random.below(frames.len()), random.below(frames.len()));
             let (a, b) = (offset_of(&frames[a]), offset_of(&frames[b]));
-            let mut header = bytes[..62].to_vec();
+            let mut header = bytes[..START].to_vec();
             header[a..a + 2].copy_from_slice(&at(b));
             header[b..b + 2].copy_from_slice(&at(a));
             (0, header)
@@ -35,8 +38,8 @@ pub fn damage(random: &mut Random, bytes: &[u8], frames: &[Frame]) -> (usize, Ve
         // One offset where another's frame is, with the count as it was or one too many.
         8 if !frames.is_empty() => {
             let from = offset_of(&frames[random.below(frames.len())]);
-            let to = 4 + 2 * random.below(29);
-            let mut header = bytes[..62].to_vec();
+            let to = 4 + 2 * random.below(SLOTS);
+            let mut header = bytes[..START].to_vec();
             header[to..to + 2].copy_from_slice(&at(from));
             header[1] += random.below(2) as u8;
             (0, header)
@@ -44,7 +47,7 @@ pub fn damage(random: &mut Random, bytes: &[u8], frames: &[Frame]) -> (usize, Ve
         // A frame that no slot has any more, with or without the count that agrees.
         9 if !frames.is_empty() => {
             let gone = offset_of(&frames[random.below(frames.len())]);
-            let mut header = bytes[..62].to_vec();
+            let mut header = bytes[..START].to_vec();
             header[gone..gone + 2].copy_from_slice(&[0, 0]);
             header[1] -= random.below(2) as u8;
             (0, header)
@@ -55,7 +58,7 @@ pub fn damage(random: &mut Random, bytes: &[u8], frames: &[Frame]) -> (usize, Ve
             let offset = u16::from_be_bytes([bytes[place], bytes[place + 1]]);
             (place, random.one_of(&[offset + 1, offset - 1]).to_be_bytes().to_vec())
         }
-        _ => (random.within(1, 61), vec![random.byte()]),
+        _ => (random.within(1, START - 1), vec![random.byte()]),
     }
 }
 
@@ -112,12 +115,12 @@ impl<'a, W: Write> History<'a, W> {
         let size = self.book.bytes.len();
         let mut kinds = SETTINGS.to_vec();
         self.random.shuffle(&mut kinds);
-        kinds.truncate(self.random.below(30));
+        kinds.truncate(self.random.below(SETTINGS.len() + 1));
         if both {
             let (short, long) = self.random.one_of(&FORMS);
             kinds.splice(0..0, [short, long]);
         }
-        let mut left = size - 62;
+        let mut left = size - START;
         let mut frames: Vec<Frame> = vec![];
         for kind in kinds {
             let is_there = |f: &Frame| f.kind == kind || !both && Some(f.kind) == other_form(kind);
@@ -191,11 +194,11 @@ impl<'a, W: Write> History<'a, W> {
 
     fn kind(&mut self) -> u64 {
         let held = self.frames().len();
-        let any = self.random.within(1, 39) as u64;
+        let any = self.random.within(1, KINDS as usize) as u64;
         match self.random.below(20) {
             0 => self.random.one_of(&ACTIONS),
             // Wrong kinds, and kinds whose low bytes are those of a setting.
-            1 => self.random.one_of(&[0, 40, 255, 300, u64::MAX, 1 << 63, 256 + any, (1 << 32) + any, (1 << 56) + any]),
+            1 => self.random.one_of(&[0, KINDS + 1, 255, 300, u64::MAX, 1 << 63, 256 + any, (1 << 32) + any, (1 << 56) + any]),
             2..=5 => self.random.one_of(&SETTINGS),
             6..=8 => any,
             9 | 10 if !self.unheld_forms().is_empty() => self.form(),
@@ -278,16 +281,16 @@ impl<'a, W: Write> History<'a, W> {
         let size = self.book.bytes.len();
         match self.random.below(20) {
             0 => {}
-            1..=3 if (62..=4096).contains(&size) => {
+            1..=3 if (START..=4096).contains(&size) => {
                 let both = self.random.percent(40);
                 self.hand_in(both)?
             }
             4 if size > 0 => {
-                let n = self.random.below(size.min(80));
+                let n = self.random.below(size.min(START + 18));
                 let bytes = self.random.bytes(n);
                 self.poke(0, &bytes)?
             }
-            5..=9 if (229..=260).contains(&size) => self.fill()?,
+            5..=9 if (FULL - 2..=LONG).contains(&size) => self.fill()?,
             _ => self.record(Record::Make)?,
         }
         for _ in 0..calls {
@@ -308,21 +311,21 @@ fn extent(random: &mut Random, size: Size) -> (usize, usize) {
     if size == Size::Sample {
         return match random.below(100) {
             0 => (random.one_of(&[4095, 4096, 4097]), 2),
-            1 => (random.one_of(&[230, 231, 232]), 4),
-            2..=9 => (random.one_of(&[0, 1, 3, 60, 61]), 20),
-            _ => (random.within(62, 88), 12),
+            1 => (random.one_of(&[FULL - 1, FULL, FULL + 1]), 4),
+            2..=9 => (random.one_of(&[0, 1, 3, START - 2, START - 1]), 20),
+            _ => (random.within(START, START + 26), 12),
         };
     }
     match random.below(1000) {
-        0..=4 => (random.within(261, 4096), 20),
+        0..=4 => (random.within(LONG + 1, 4096), 20),
         5..=9 => (random.one_of(&[4095, 4096]), 20),
         10..=14 => (random.one_of(&[4097, 4098, 5000]), 6),
-        15..=34 => (random.below(62), 10),
-        35..=44 => (61, 10),
-        45..=244 => (random.within(62, 80), 60),
-        245..=644 => (random.within(81, 160), 60),
-        645..=944 => (random.within(161, 260), 60),
-        _ => (random.one_of(&[229, 230, 231, 232]), 60),
+        15..=34 => (random.below(START), 10),
+        35..=44 => (START - 1, 10),
+        45..=244 => (random.within(START, START + 18), 60),
+        245..=644 => (random.within(START + 19, START + 98), 60),
+        645..=944 => (random.within(START + 99, LONG), 60),
+        _ => (random.one_of(&[FULL - 2, FULL - 1, FULL, FULL + 1]), 60),
     }
 }
 

@@ -1,11 +1,11 @@
 // Random histories of two sides that share a book. They are the same on every run and machine: the random numbers have a fixed seed.
-use crate::book::{length, other_form, place, weight, Frame, ACTIONS, FORMS, SETTINGS};
+use crate::book::{length, other_form, place, weight, Frame, ACTIONS, FORMS, FULL, MOST_BYTES, SETTINGS, SLOTS, START};
 use crate::file::Records;
 use crate::fixed::filling;
 use crate::fixed_sides;
 use crate::frames::{damaged, good, Random};
-use crate::make::{damage, History, Size};
-use crate::model::commands;
+use crate::make::{damage, History, Size, LONG};
+use crate::model::{commands, KINDS};
 use crate::record::{Call, Record, Table};
 use crate::sides::{owner, part};
 use crate::tables::{kinds_of, place_of, right_table, wrong_caller, wrong_quotas};
@@ -19,7 +19,7 @@ pub struct Sharing<'a, W: Write> {
 
 impl<W: Write> Sharing<'_, W> {
     pub fn room(&self) -> usize {
-        self.history.book.bytes.len().saturating_sub(62)
+        self.history.book.bytes.len().saturating_sub(START)
     }
 
     // What a side holds by the history's table.
@@ -83,11 +83,11 @@ impl<W: Write> Sharing<'_, W> {
     }
 
     fn kind(&mut self, side: u64) -> u64 {
-        let (any, which) = (self.history.random.within(1, 39) as u64, self.history.random.below(20));
+        let (any, which) = (self.history.random.within(1, KINDS as usize) as u64, self.history.random.below(20));
         let held = |side| self.held(side).iter().map(|f| f.kind).collect::<Vec<u64>>();
         let kinds = match which {
             0 => ACTIONS.to_vec(),
-            1 => vec![0, 40, 255, 300, u64::MAX, 1 << 63, 256 + any, (1 << 32) + any, (1 << 56) + any],
+            1 => vec![0, KINDS + 1, 255, 300, u64::MAX, 1 << 63, 256 + any, (1 << 32) + any, (1 << 56) + any],
             2 | 3 => held(3 - side),
             4 | 5 => kinds_of(&self.table.owners, 3 - side),
             6 | 7 => self.unheld_forms(side),
@@ -120,9 +120,9 @@ impl<W: Write> Sharing<'_, W> {
         let (room, held) = (self.room(), [1, 2].map(|side| weight(&self.held(side)) as u64));
         let random = &mut *self.history.random;
         let mut table = self.table.clone();
-        let slot = random.below(29);
+        let slot = random.below(SLOTS);
         match random.below(10) {
-            0 => table.owners.truncate(random.one_of(&[28, 28, slot])),
+            0 => table.owners.truncate(random.one_of(&[SLOTS - 1, SLOTS - 1, slot])),
             1 => {
                 let n = random.one_of(&[1, 1, 2, 35]);
                 table.owners.extend((0..n).map(|_| 1 + random.below(2) as u8))
@@ -151,7 +151,7 @@ impl<W: Write> Sharing<'_, W> {
         let call = self.any_call(side);
         let right = self.table.clone();
         let (mut caller, mut table) = self.spoilt(side);
-        if self.history.random.percent(15) && table.owners.len() == SETTINGS.len() {
+        if self.history.random.percent(15) && table.owners.len() == SLOTS {
             self.table = table;
             (caller, table) = self.spoilt(caller);
             self.table = right;
@@ -201,7 +201,7 @@ impl<W: Write> Sharing<'_, W> {
         let side = self.history.random.one_of(&[1, 2]);
         let bytes = self.quota(side) + self.history.random.below(2);
         let is_own = |kind: u64| owner(&self.table.owners, kind) == Some(side);
-        let kinds = if bytes > 170 { None } else { filling(self.history.random, bytes, is_own) };
+        let kinds = if bytes > MOST_BYTES + 1 { None } else { filling(self.history.random, bytes, is_own) };
         let mut kinds = kinds.unwrap_or_default();
         self.history.random.shuffle(&mut kinds);
         self.call(side, Call::Clear)?;
@@ -228,7 +228,7 @@ impl<W: Write> Sharing<'_, W> {
     }
 
     fn run(&mut self, calls: usize) -> Result<()> {
-        let is_book = (62..=4096).contains(&self.history.book.bytes.len());
+        let is_book = (START..=4096).contains(&self.history.book.bytes.len());
         match self.history.random.below(20) {
             0 if is_book => self.history.hand_in(false)?,
             1 => {}
@@ -253,18 +253,18 @@ impl<W: Write> Sharing<'_, W> {
 // A buffer's length, and the most calls that a history on it has.
 fn extent(random: &mut Random, size: Size) -> (usize, usize) {
     if size == Size::Sample {
-        return (random.within(62, 88), 12);
+        return (random.within(START, START + 26), 12);
     }
     match random.below(1000) {
-        0..=3 => (random.within(261, 4096), 20),
+        0..=3 => (random.within(LONG + 1, 4096), 20),
         4..=6 => (random.one_of(&[4095, 4096]), 20),
         7..=10 => (random.one_of(&[4097, 4098, 5000]), 12),
-        11..=20 => (random.below(62), 12),
-        21..=30 => (61, 12),
-        31..=249 => (random.within(62, 80), 40),
-        250..=699 => (random.within(81, 160), 40),
-        700..=949 => (random.within(161, 260), 40),
-        _ => (random.one_of(&[230, 231, 232]), 40),
+        11..=20 => (random.below(START), 12),
+        21..=30 => (START - 1, 12),
+        31..=249 => (random.within(START, START + 18), 40),
+        250..=699 => (random.within(START + 19, START + 98), 40),
+        700..=949 => (random.within(START + 99, LONG), 40),
+        _ => (random.one_of(&[FULL - 1, FULL, FULL + 1]), 40),
     }
 }
 
@@ -277,7 +277,7 @@ pub fn histories<W: Write>(count: usize, seed: u64, size: Size, to: &mut Records
     }
     for _ in first.len()..count {
         let (length, most) = extent(&mut random, size);
-        let table = right_table(&mut random, length.saturating_sub(62));
+        let table = right_table(&mut random, length.saturating_sub(START));
         let (first, calls) = (random.byte(), random.within(1, most));
         let mut sharing = Sharing { history: History::new(&mut random, to, SETTINGS.to_vec(), 0), table };
         sharing.history.record(Record::Lend { length, first })?;

@@ -1,5 +1,6 @@
 // Pairs of histories that have a side's calls, the table and the buffer's length in common, while the other side's calls differ. The side has to get
 // the same answers and the same bytes in both. Here they are made, and here the program's answers are held to that.
+use crate::book::{FULL_REPLAY, START};
 use crate::compare::{Step, Watch};
 use crate::file::Records;
 use crate::frames::Random;
@@ -37,7 +38,7 @@ fn among<W: Write>(history: History<W>, length: usize, table: &Table, side: u64,
             on.call(3 - side, call)?;
         }
         match on.history.random.below(40) {
-            0 => on.history.record(Record::Replay { output: 195 })?,
+            0 => on.history.record(Record::Replay { output: FULL_REPLAY })?,
             1 => on.history.record(Record::Ask { kind: 24, output: 6 })?,
             _ => {}
         }
@@ -50,10 +51,10 @@ fn among<W: Write>(history: History<W>, length: usize, table: &Table, side: u64,
 
 // Two histories that have a side's calls, the table and the buffer's length in common. The side makes its calls up as if it were alone.
 fn pair<W: Write>(random: &mut Random, side: u64, to: &mut Records<W>) -> Result<()> {
-    let length = random.within(70, 200);
-    let mut table = right_table(random, length - 62);
+    let length = random.within(START + 8, START + 138);
+    let mut table = right_table(random, length - START);
     if random.percent(2) {
-        table.quotas = wrong_quotas(random, length as u64 - 62);
+        table.quotas = wrong_quotas(random, (length - START) as u64);
     }
     let mut nowhere = Records::new(std::io::sink());
     let count = random.within(3, 12);

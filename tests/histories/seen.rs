@@ -1,5 +1,5 @@
 // What the histories came to: every answer of every call, every swap of forms at the edge of the room, and every way to miss a form has to be met.
-use crate::book::{length, other_form, weight, Answer, Book, Frame, FORMS, SETTINGS};
+use crate::book::{length, other_form, weight, Answer, Book, Frame, FORMS, FULL, FULL_REPLAY, MOST_FRAMES, START};
 use crate::compare::{Step, Watch};
 use crate::model::{commands, decode, Decoded};
 use crate::record::Record;
@@ -14,10 +14,6 @@ const CALLS: [(&str, &[u8]); 6] = [
     ("clear", &[11, 10, 16]),
     ("replay", &[11, 10, 16, 12]),
 ];
-
-// A book that holds every setting, in the longer form where there are two, takes so many bytes, and its replay so many.
-const FULL: usize = 231;
-const FULL_REPLAY: u16 = 195;
 
 #[derive(Clone, Copy, Debug, PartialEq, Eq, PartialOrd, Ord)]
 pub enum Place {
@@ -118,7 +114,7 @@ fn stored(bytes: &[u8]) -> Option<u8> {
 }
 
 fn taken(frames: &[Frame]) -> usize {
-    62 + weight(frames)
+    START + weight(frames)
 }
 
 // The kind of a frame that is one of two forms. Most frames are told by opcode and length to be none, which is quicker than to decode them.
@@ -161,8 +157,8 @@ impl Watch for Seen {
         let lines = [
             format!("{} histories, {} calls, {} done; refusals {}", self.histories, calls, total(0), refusals.join(", ")),
             format!(
-                "{} puts that brought a kind back, {} that made a book of all 26 settings, {} that made one of {} bytes; one byte less refused {}",
-                self.returned, self.full, self.longest, FULL, self.byte_less
+                "{} puts that brought a kind back, {} that made a book of all {} settings, {} that made one of {} bytes; one byte less refused {}",
+                self.returned, self.full, MOST_FRAMES, self.longest, FULL, self.byte_less
             ),
             format!(
                 "{} of {} puts of a paired kind; swaps: {} to the longer form, {} to the shorter, {} refused for room; {} edges of the room met",
@@ -214,9 +210,9 @@ impl Seen {
             Record::Remove { kind } if answer.refusal == 0 => self.gone.push(*kind),
             Record::Remove { kind } => self.miss(2, *kind, answer, book),
             Record::Ask { kind, .. } => self.miss(3, *kind, answer, book),
-            Record::Replay { output } if *output <= FULL_REPLAY as usize && book.content.as_deref().map_or(0, taken) == FULL => {
-                self.replayed[0] += (answer.written == FULL_REPLAY) as u64;
-                self.replayed[1] += (answer.refusal == 12 && *output + 1 == FULL_REPLAY as usize) as u64;
+            Record::Replay { output } if *output <= FULL_REPLAY && book.content.as_deref().map_or(0, taken) == FULL => {
+                self.replayed[0] += (answer.written as usize == FULL_REPLAY) as u64;
+                self.replayed[1] += (answer.refusal == 12 && *output + 1 == FULL_REPLAY) as u64;
             }
             _ => {}
         }
@@ -242,7 +238,7 @@ impl Seen {
         let after = book.content.as_deref().unwrap_or(&[]);
         if after.len() > before.len() {
             self.returned += self.gone.contains(&after[before.len()].kind) as u64;
-            self.full += (after.len() == SETTINGS.len() - FORMS.len()) as u64;
+            self.full += (after.len() == MOST_FRAMES) as u64;
         }
         self.longest += (taken(after) == FULL && taken(before) < FULL) as u64;
         let replaced = swapped.and_then(|swap| other_form(swap.kind)).map_or(0, length);

@@ -1,6 +1,6 @@
 // What the sides' histories came to: every answer of every call of each side, every reason for 17 by itself, every two refusals that one call
 // could get, and every edge of a quota has to be met.
-use crate::book::{length, other_form, place, reel, slot, weight, Frame, FORMS};
+use crate::book::{length, other_form, place, reel, slot, weight, Frame, FORMS, SLOTS, START};
 use crate::compare::{Step, Watch};
 use crate::model::{commands, decode, Decoded};
 use crate::record::{Call, Record, Table};
@@ -335,7 +335,7 @@ impl SeenSides {
             self.meet(Met::Answer(name(call), caller, refusal));
         }
         let frames = step.before.as_deref().unwrap_or(&[]);
-        let (lists, room) = (parts(frames, &table.owners), step.book.bytes.len().saturating_sub(62));
+        let (lists, room) = (parts(frames, &table.owners), step.book.bytes.len().saturating_sub(START));
         let called = Called { caller, table, call, room, frames, wrong: wrong(table, caller, room, &lists), lists };
         for later in called.refusals().into_iter().filter(|r| *r != refusal && refusal != 0) {
             self.meet(Met::Before(name(call), refusal, later));
@@ -352,7 +352,7 @@ impl SeenSides {
 
 fn owed() -> Vec<Met> {
     let mut all = vec![Met::SumIsRoom, Met::SumIsAbove, Met::SumIsPast, Met::Huge, Met::BothFull];
-    all.extend([0, 28, 30].map(Met::Entries));
+    all.extend([0, SLOTS - 1, SLOTS + 1].map(Met::Entries));
     all.extend([0, 3, 255].map(Met::Owner));
     all.extend([0, 3, u64::MAX].map(Met::Caller));
     for ((call, refusals), (_, order)) in CALLS.into_iter().zip(ORDER) {

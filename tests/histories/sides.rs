@@ -1,6 +1,6 @@
 // Two sides that share a book. Each has a plain list of its own, which answers its calls; the joint list, which is the book's, gives the bytes.
 // The rules are the request's; nothing of the source is used.
-use crate::book::{counting, held, place, reel, refused, setting, slot, weight, Answer, Book, Frame, FORMS, SETTINGS};
+use crate::book::{counting, held, place, reel, refused, setting, slot, weight, Answer, Book, Frame, FORMS, SLOTS, START};
 use crate::record::{Call, Record, Table};
 use std::ops::Deref;
 
@@ -49,8 +49,8 @@ pub fn wrong(table: &Table, caller: u64, room: usize, lists: &Lists) -> Vec<Wron
     };
     let sum: u128 = table.quotas.iter().map(|q| *q as u128).sum();
     let mut all = vec![
-        (owners.len() < SETTINGS.len(), Wrong::Fewer),
-        (owners.len() > SETTINGS.len(), Wrong::More),
+        (owners.len() < SLOTS, Wrong::Fewer),
+        (owners.len() > SLOTS, Wrong::More),
         (owners.iter().any(|o| !is_side(*o as u64)), Wrong::Owner),
         (!is_side(caller), Wrong::Caller),
         (sum > room as u128, Wrong::Quotas),
@@ -133,13 +133,13 @@ impl Shared {
             Some((owners, lists)) if *owners == table.owners => lists.clone(),
             _ => parts(&joint, &table.owners),
         };
-        if !wrong(table, caller, self.book.bytes.len() - 62, &lists).is_empty() {
+        if !wrong(table, caller, self.book.bytes.len() - START, &lists).is_empty() {
             return Err(refused(17));
         }
         // A call that is refused leaves them so.
         self.kept = Some((table.owners.clone(), lists.clone()));
         let told = called(caller, table, call, &mut lists[caller as usize - 1], &mut joint)?;
-        assert!(62 + weight(&joint) <= self.book.bytes.len(), "what fits both quotas does not fit the book");
+        assert!(START + weight(&joint) <= self.book.bytes.len(), "what fits both quotas does not fit the book");
         self.kept = Some((table.owners.clone(), lists));
         Ok(match told {
             Some(bytes) => self.book.write(&bytes),

@@ -1,12 +1,13 @@
 // Owner tables: right ones, and numbers that make a table wrong.
-use crate::book::{length, other_form, slot, FORMS, SETTINGS};
+use crate::book::{length, other_form, slot, FORMS, SETTINGS, SLOTS};
 use crate::frames::Random;
 use crate::record::Table;
 use crate::sides::owner;
 
-// Owners for every slot; the two forms of a setting have one.
+// Owners for every slot; the two forms of a setting have one, and a slot that no setting has is side 1's.
 pub fn owners(of: impl FnMut(u64) -> u8) -> Vec<u8> {
     let mut owners: Vec<u8> = SETTINGS.iter().copied().map(of).collect();
+    owners.resize(SLOTS, 1);
     for (short, long) in FORMS {
         owners[place_of(long)] = owners[place_of(short)];
     }

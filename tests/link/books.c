@@ -7,12 +7,11 @@ typedef struct {
     uint8_t bytes[12];
 } held;
 
-static held list[30];
+static held list[SETTINGS + 1];
 static size_t count, size;
 static uint8_t book[4097], reel[HB_REPLAY_MAX];
 
 /* The kinds that are one setting in two lengths, the shorter form first. */
-enum { PAIRS = 3 };
 static const uint8_t forms[PAIRS][2] = {{5, 6}, {25, 26}, {27, 28}};
 
 uint64_t other_form(uint64_t kind) {
@@ -39,15 +38,15 @@ static size_t found(uint64_t kind) {
 }
 
 static size_t end_of(void) {
-    size_t end = 62;
+    size_t end = START;
     for (size_t i = 0; i < count; i++) end += list[i].len;
     return end;
 }
 
 /* The bytes that the list has in a buffer of that size. */
 static void written(uint8_t *to) {
-    const uint8_t head[] = {1, count, end_of() >> 8, end_of()};
-    size_t at = 62;
+    const uint8_t head[] = {VERSION, count, end_of() >> 8, end_of()};
+    size_t at = START;
     memcpy(memset(to, 0, size), head, sizeof head);
     for (size_t i = 0; i < count; at += list[i++].len) {
         to[4 + 2 * slot(list[i].kind)] = at >> 8;
@@ -182,28 +181,28 @@ static void history(size_t n) {
 
 /* The reference's example; a full book takes an overwrite; what is put again stands at the end. */
 static void examples(void) {
-    make(62);
+    make(START);
     replay();
     put(4, "02 23 34");
     same("count, for there is no room", book[1], 0);
-    make(65);
+    make(START + 3);
     put(4, "02 23 34");
     same("byte 1", book[1], 1);
-    same("bytes 2-3", book[2] << 8 | book[3], 0x41);
-    same("bytes 10-11", book[10] << 8 | book[11], 0x3E);
+    same("bytes 2-3", book[2] << 8 | book[3], START + 3);
+    same("bytes 10-11", book[10] << 8 | book[11], START);
     make(HB_BOOK_ALL - 1);
     for (size_t i = 0; i < KINDS; i++) put(rows[i].kind, rows[i].frame);
-    same("count, for there is no room for kind 39", book[1], 25);
+    same("count, for there is no room for the last kind", book[1], MOST_FRAMES - 1);
     make(HB_BOOK_ALL);
     for (size_t i = 0; i < KINDS; i++) put(rows[i].kind, rows[i].frame);
-    same("count", book[1], 26);
-    same("end", book[2] << 8 | book[3], 231);
+    same("count", book[1], MOST_FRAMES);
+    same("end", book[2] << 8 | book[3], FULL);
     for (size_t i = 0; i < KINDS; i++) put(rows[i].kind, rows[i].other);
     take_out(39);
     put(39, rows[38].frame);
-    same("offset of kind 39", book[60] << 8 | book[61], 221);
+    same("offset of kind 39", book[60] << 8 | book[61], FULL - 10);
     replay();
-    same("the replay's length", hb_book_replay(book, size, reel, sizeof reel).value, 195);
+    same("the replay's length", hb_book_replay(book, size, reel, sizeof reel).value, FULL_REPLAY);
 }
 
 /* Each form in the place of the other, first, in the middle and last, in a buffer that the longer one fills and in one that is a byte shorter. */
@@ -211,7 +210,7 @@ static void swaps(void) {
     for (size_t i = 0; i < PAIRS * 3 * 2; i++) {
         const row *shorter = &rows[forms[i / 6][0] - 1], *longer = shorter + 1, *others[] = {&rows[3], &rows[23]};
         size_t place = i / 2 % 3, lacks = i % 2;
-        make(62 + 3 + 6 + frame_of(0, longer->frame).len - lacks);
+        make(START + 3 + 6 + frame_of(0, longer->frame).len - lacks);
         for (size_t j = 0; j < 3; j++) {
             const row *r = j == place ? shorter : others[j - (j > place)];
             put(r->kind, r->frame);
@@ -229,7 +228,7 @@ static void swaps(void) {
 
 /* The receive path with its boost, the frequency, the path without the boost, and with it again: it is sent once, where it first stood. */
 static void technician(void) {
-    make(72);
+    make(START + 10);
     put(HB_SET_RX_PATH_ADV, "02 01 01 04");
     put(HB_SET_RF_FREQUENCY, "02 00 33 BE 27 A0");
     put(HB_SET_RX_PATH, "02 01 01");
@@ -254,7 +253,7 @@ static void refuses_all(uint32_t refusal) {
 static void both_forms(void) {
     for (size_t i = 0; i < PAIRS * 2; i++) {
         const row *first = &rows[forms[i / 2][i % 2] - 1], *last = &rows[forms[i / 2][1 - i % 2] - 1];
-        make(100);
+        make(START + 38);
         put(first->kind, first->frame);
         put(4, "02 23 34");
         held h = list[count++] = frame_of(last->kind, last->frame);
@@ -265,7 +264,7 @@ static void both_forms(void) {
         same_answer(change('r', last->kind, NULL, 0), 16, 0, 0);
         is_the_list();
         reads(last->kind, 16, NULL, 0);
-        book[0] = 2;
+        book[0] = VERSION + 1;
         trying("a book with both forms, of another version", "kind", first->kind);
         refuses_all(10);
         same_answer(change('m', 0, NULL, 0), 0, 0, 0);
@@ -277,11 +276,11 @@ static void both_forms(void) {
 /* A stored book with a sync word of every length, in either order: up to 64 bits it opens, and beyond it is not well formed. */
 static void sync_words(void) {
     for (unsigned last = 0; last < 256; last++) {
-        make(100);
+        make(START + 38);
         put(4, "02 23 34");
         put(20, "02 44 01 23 45 67 89 AB CD EF 40");
         put(25, "02 01 00");
-        list[1].bytes[10] = book[75] = last;
+        list[1].bytes[10] = book[START + 3 + 10] = last;
         trying("a book with a sync word", "last byte", last);
         if (last % 128 <= 64) {
             ask(20);
@@ -299,9 +298,9 @@ static void sync_words(void) {
 }
 
 static void sizes(void) {
-    const size_t bad[] = {0, 1, 61, 4097};
+    const size_t bad[] = {0, 1, START - 1, 4097};
     for (size_t i = 0; i < 4; i++) {
-        make(62); /* so that nothing but the size is wrong */
+        make(START); /* so that nothing but the size is wrong */
         size = bad[i];
         trying("a book of a bad size", "size", size);
         same_answer(change('m', 0, NULL, 0), 11, 0, 0);
@@ -316,12 +315,13 @@ static void sizes(void) {
     same_answer(hb_book_replay(NULL, 0, NULL, 0), 11, 0, 0);
 }
 
-/* A book with kinds 4 and 25 at 62 and 65, and one byte of it changed: version, count, end, offsets, frames, tail. */
+/* A book with kinds 4 and 25 at START and START + 3, and one byte of it changed: version, count, end, offsets, frames, tail. */
 static void tampered(void) {
-    static const uint8_t bytes[][2] = {{0, 0}, {0, 2}, {1, 0}, {1, 1}, {1, 3}, {2, 1}, {2, 255}, {3, 61}, {3, 67}, {3, 69}, {5, 62}, {10, 1},
-        {11, 0}, {11, 1}, {11, 65}, {43, 0}, {43, 62}, {43, 66}, {61, 255}, {62, 3}, {63, 0x28}, {66, 15}, {67, 2}, {68, 1}, {79, 128}};
+    static const uint8_t bytes[][2] = {{0, 0}, {0, VERSION + 1}, {1, 0}, {1, 1}, {1, 3}, {2, 1}, {2, 255}, {3, START - 1}, {3, START + 5},
+        {3, START + 7}, {5, START}, {10, 1}, {11, 0}, {11, 1}, {11, START + 3}, {43, 0}, {43, START}, {43, START + 4}, {START - 1, 255},
+        {START, 3}, {START + 1, 0x28}, {START + 4, 15}, {START + 5, 2}, {START + 6, 1}, {START + 17, 128}};
     for (size_t i = 0; i < sizeof bytes / 2; i++) {
-        make(80);
+        make(START + 18);
         put(4, "02 23 34");
         put(25, "02 01 00");
         book[bytes[i][0]] = bytes[i][1];
@@ -340,8 +340,8 @@ static void refused(void) {
         uint32_t refusal, place;
     } frames[] = {{"", 1, 0}, {"02", 1, 0}, {"03 23 34", 2, 0}, {"02 23", 3, 0}, {"02 22 00 80", 4, 3}, {"02 20 40 10", 5, 2},
         {"02 44 00 00 00 00 00 00 00 00 41", 5, 10}, {"02 10 00 00 00 00 00 00 08", 4, 8}, {"02 0C", 3, 0}, {"02 28", 13, 0}, {"02 0C 00 00 00", 13, 0}};
-    const uint64_t kinds[] = {1, 8, 37, 40, 255, 260, ((uint64_t)1 << 32) + 4, UINT64_MAX};
-    make(65);
+    const uint64_t kinds[] = {1, 8, 37, KINDS + 1, 255, 260, ((uint64_t)1 << 32) + 4, UINT64_MAX};
+    make(START + 3);
     put(4, "02 23 34");
     for (size_t i = 0; i < sizeof frames / sizeof *frames; i++) {
         uint8_t bytes[16];
@@ -361,7 +361,7 @@ static void refused(void) {
 }
 
 void test_books(void) {
-    const size_t good[] = {62, 63, 65, 100, 160, 229, 230, 231, 4095, 4096};
+    const size_t good[] = {START, START + 1, START + 3, START + 38, START + 98, FULL - 2, FULL - 1, FULL, 4095, 4096};
     examples();
     swaps();
     technician();

@@ -15,7 +15,7 @@ fn set(book: &mut [u8], kind: u64, args: &[u64]) {
 }
 
 fn main() {
-    let (mut book, mut reel, mut text) = ([0; 231], [0; 195], [0; 28 * 195]);
+    let (mut book, mut reel, mut text) = ([0; hb::BOOK_ALL], [0; hb::REPLAY_MAX], [0; hb::DUMP_BYTE_MAX * hb::REPLAY_MAX]);
     hb::book_make(&mut book);
 
     // Kind 24 is the frequency in Hz. Kind 1 is the LoRa modulation: Sf7, Bw125, Cr1Ham45Si, no optimisation, filter by the radio.

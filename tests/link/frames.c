@@ -62,7 +62,7 @@ void builds_rows(builder *build) {
         for (size_t few = 0; few < n; few++) built(build, r->kind, args, few, "", 6, few + 1);
         for (size_t many = n + 1; many <= 12; many++) built(build, r->kind, args, many, "", 6, n + 1);
     }
-    const uint64_t none[] = {0, 40, 255, 256, 257, (uint64_t)1 << 32, ((uint64_t)1 << 32) + 1, UINT64_MAX};
+    const uint64_t none[] = {0, KINDS + 1, 255, 256, 257, (uint64_t)1 << 32, ((uint64_t)1 << 32) + 1, UINT64_MAX};
     for (size_t i = 0; i < sizeof none / sizeof *none; i++) builds(build, none[i], i % 2 ? "" : "7 4 1 0 0", "", 13, 0);
     trying("a builder with null", "", 0);
     same_frame(build(8, NULL, 0), "02 28", 0, 0);

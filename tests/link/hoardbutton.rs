@@ -2,6 +2,11 @@
 // a caller needs no `unsafe`. Needs no std.
 #![allow(dead_code)]
 
+// The header's sizes of what a caller lends: a book for all settings, the longest replay, and a dump for each byte of a reel.
+pub const BOOK_ALL: usize = 231;
+pub const REPLAY_MAX: usize = 195;
+pub const DUMP_BYTE_MAX: usize = 28;
+
 macro_rules! structs {
     ($($name:ident { $($field:ident: $type:ty),+ })+) => {
         $(#[repr(C)]

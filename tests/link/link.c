@@ -10,12 +10,12 @@ void (*signal(int, void (*)(int)))(int);
 _Noreturn void exit(int);
 
 /* Where an emulator runs this, the machine's pages may be larger than those of x86-64: all is done in steps of the largest. */
-enum { PAGE = 65536, SLOTS = 8, CLOSED = 0, READ = 1, WRITE = 2, PRIVATE_ANONYMOUS = 0x22, SIGNAL_BUS = 7, SIGNAL_SEGV = 11 };
+enum { PAGE = 65536, BUFFERS = 8, CLOSED = 0, READ = 1, WRITE = 2, PRIVATE_ANONYMOUS = 0x22, SIGNAL_BUS = 7, SIGNAL_SEGV = 11 };
 
 static const char *const modes[] = {"plain memory", "guard page behind", "guard page before"};
 static unsigned mode;
 static uint8_t *memory;
-static bool read_only[SLOTS];
+static bool read_only[BUFFERS];
 static uint64_t checks, number;
 static const char *call = "", *input = "";
 unsigned lent;
@@ -32,7 +32,7 @@ static void crashed(int which) {
 }
 
 uint8_t *lend(size_t n) {
-    if (lent == SLOTS || n > PAGE / 2) failed("the harness has no such buffer", 99);
+    if (lent == BUFFERS || n > PAGE / 2) failed("the harness has no such buffer", 99);
     uint8_t *page = memory + (2 * lent + 1) * PAGE;
     if (read_only[lent]) mprotect(page, PAGE, READ | WRITE);
     read_only[lent++] = false;
@@ -121,8 +121,8 @@ size_t numbers(const char *text, uint64_t *to) {
 int main(void) {
     signal(SIGNAL_SEGV, crashed);
     signal(SIGNAL_BUS, crashed);
-    memory = mmap(0, (2 * SLOTS + 1) * PAGE, CLOSED, PRIVATE_ANONYMOUS, -1, 0);
-    for (unsigned i = 0; i < SLOTS; i++) mprotect(memory + (2 * i + 1) * PAGE, PAGE, READ | WRITE);
+    memory = mmap(0, (2 * BUFFERS + 1) * PAGE, CLOSED, PRIVATE_ANONYMOUS, -1, 0);
+    for (unsigned i = 0; i < BUFFERS; i++) mprotect(memory + (2 * i + 1) * PAGE, PAGE, READ | WRITE);
     void (*const tests[])(void) = {test_frames, test_books, test_sides, test_radio, test_readings, test_reels, test_rust, test_plain, test_plays,
         test_widths, test_profiles, test_names};
     for (mode = 0; mode < 3; mode++)

@@ -29,8 +29,24 @@ uint64_t next_of(uint64_t *state);
 size_t hex(const char *text, uint8_t *to);
 size_t numbers(const char *text, uint64_t *to);
 
+/* How many kinds there are, settings among them, and pairs of kinds that are one setting in two lengths. The layout: its version, and how
+ * many slots there are; a header has an offset for each, an owner table an entry, and frames start behind the header. A book that holds
+ * every setting, of two forms the longer one: its frames, their bytes together, its own length, that of its replay. All these numbers are
+ * the tests' own, and not those of hoardbutton.h. */
+enum {
+    KINDS = 39,
+    SETTINGS = 29,
+    PAIRS = 3,
+    VERSION = 1,
+    SLOTS = 29,
+    START = 4 + 2 * SLOTS,
+    MOST_FRAMES = SETTINGS - PAIRS,
+    MOST_BYTES = 169,
+    FULL = START + MOST_BYTES,
+    FULL_REPLAY = MOST_BYTES + MOST_FRAMES
+};
+
 /* A good call of each kind, its frame (REFERENCE, "Commands"), and another frame of that kind, all ones where it may be. */
-enum { KINDS = 39 };
 typedef struct {
     uint64_t kind;
     const char *args, *frame, *other;

@@ -48,7 +48,7 @@ static void kinds(void) {
     same("HB_ARGS_MAX", HB_ARGS_MAX, most);
     same("HB_ARGS_MAX in hb_decoded", sizeof ((hb_decoded *)0)->args / sizeof(uint64_t), most);
     same("HB_SETTINGS", HB_SETTINGS, settings);
-    same("settings in the book, three of them kept in one form of two", book[1], settings - 3);
+    same("settings in the book, some of them kept in one form of two", book[1], settings - PAIRS);
     same("HB_BOOK_ALL", HB_BOOK_ALL, HB_BOOK_MIN + frames);
     same("HB_REPLAY_MAX", HB_REPLAY_MAX, frames + book[1]);
 }
@@ -118,9 +118,9 @@ static void books(void) {
     same_answer(hb_book_replay(book, HB_BOOK_ALL, reel, HB_REPLAY_MAX - 1), HB_REFUSED_OUTPUT_SHORT, 0, 0);
     same_answer(hb_book_ask(book, HB_BOOK_ALL, HB_CONFIG_LORA_PREAMBLE_MODULATION_ADV, out, HB_FRAME_MAX), 0, 0, HB_FRAME_MAX);
     same_answer(hb_book_ask(book, HB_BOOK_ALL, HB_SET_RX_PATH, out, HB_FRAME_MAX), HB_REFUSED_NOT_HELD, 0, 0);
-    book[0] = 2;
+    book[0] = VERSION + 1;
     same_answer(hb_book_clear(book, HB_BOOK_ALL), HB_REFUSED_NOT_WELL_FORMED, 0, 0);
-    const uint8_t both[69] = {1, 2, [3] = 69, [43] = 62, [45] = 65, [62] = 2, 1, 1, 2, 1, 1, 4};
+    const uint8_t both[START + 7] = {VERSION, 2, [3] = START + 7, [43] = START, [45] = START + 3, [START] = 2, 1, 1, 2, 1, 1, 4};
     same_answer(hb_book_replay(both, sizeof both, reel, HB_REPLAY_MAX), HB_REFUSED_BOTH_FORMS, 0, 0);
 }
 

@@ -87,7 +87,7 @@ fn many(c: &Command) {
 #[no_mangle]
 pub extern "C" fn test_rust_plain() {
     given_back();
-    for kind in [0, 40, 1 << 32, u64::MAX] {
+    for kind in [0, KINDS + 1, 1 << 32, u64::MAX] {
         plain(kind, &[]);
     }
     commands().iter().for_each(|c| each_argument(c, plain));

@@ -67,41 +67,41 @@ static const struct {
             .fsk_packet_status = {.status = 0x0404, .pkt_len = 3, .rssi_avg = 120, .rssi_sync = 121, .addr_match_node = true, .lqi = 12}},
         {"02 23 34", "02 00 33 BE 27 A0"}},
     /* Faults of the header; a count of 0 and an offset past the end. */
-    {"", 62, {.refusal = 15}, {0}},
+    {"", START, {.refusal = 15}, {0}},
     {"00 01 00", 4096, {.refusal = 15}, {0}},
-    {"00 01 00 03 00 02 02 28", 62, {.refusal = 15}, {0}},
-    {"00 00 00 00", 62, {.refusal = 15}, {0}},
-    {"00 00 00 04", 62, {.refusal = 0}, {0}},
-    {"00 00 FF FF", 62, {.refusal = 0}, {0}},
-    {"00 01 FF FF", 62, {.refusal = 15, .place = 65535}, {0}},
-    {"00 01 00 04", 62, {.refusal = 15, .place = 4}, {0}},
+    {"00 01 00 03 00 02 02 28", START, {.refusal = 15}, {0}},
+    {"00 00 00 00", START, {.refusal = 15}, {0}},
+    {"00 00 00 04", START, {.refusal = 0}, {0}},
+    {"00 00 FF FF", START, {.refusal = 0}, {0}},
+    {"00 01 FF FF", START, {.refusal = 15, .place = 65535}, {0}},
+    {"00 01 00 04", START, {.refusal = 15, .place = 4}, {0}},
     /* Faults of a record leave what was before; bytes between and behind do not count. */
-    {"00 02 00 04 00 03 02 23 34 00", 70, {.refusal = 15, .place = 9, .records = 1, .accepted = 1}, {"02 23 34"}},
-    {"00 02 00 04 00 03 02 23 34 00 02 02", 70, {.refusal = 15, .place = 9, .records = 1, .accepted = 1}, {"02 23 34"}},
-    {"00 02 00 04 00 03 02 23 34 02 00", 70, {.refusal = 15, .place = 9, .records = 1, .accepted = 1}, {"02 23 34"}},
-    {"00 02 00 04 00 03 02 23 34 FF 00", 70, {.refusal = 15, .place = 9, .records = 1, .accepted = 1}, {"02 23 34"}},
-    {"00 01 00 07 FF FF FF 00 03 02 23 34 02 FF", 70, {.records = 1, .accepted = 1}, {"02 23 34"}},
+    {"00 02 00 04 00 03 02 23 34 00", START + 8, {.refusal = 15, .place = 9, .records = 1, .accepted = 1}, {"02 23 34"}},
+    {"00 02 00 04 00 03 02 23 34 00 02 02", START + 8, {.refusal = 15, .place = 9, .records = 1, .accepted = 1}, {"02 23 34"}},
+    {"00 02 00 04 00 03 02 23 34 02 00", START + 8, {.refusal = 15, .place = 9, .records = 1, .accepted = 1}, {"02 23 34"}},
+    {"00 02 00 04 00 03 02 23 34 FF 00", START + 8, {.refusal = 15, .place = 9, .records = 1, .accepted = 1}, {"02 23 34"}},
+    {"00 01 00 07 FF FF FF 00 03 02 23 34 02 FF", START + 8, {.records = 1, .accepted = 1}, {"02 23 34"}},
     /* No room: refused, and the latest all the same; a kind that is held is overwritten, and room is what counts, not the number. */
-    {"00 04 00 04 00 03 02 23 34 00 03 02 01 01 00 03 02 23 35 00 03 02 0F 00", 65,
+    {"00 04 00 04 00 03 02 23 34 00 03 02 01 01 00 03 02 23 35 00 03 02 0F 00", START + 3,
         {.records = 4, .accepted = 2, .refused = {[8] = 2}}, {"02 23 35"}},
-    {"00 02 00 04 00 03 02 23 34 00 03 02 01 01", 67, {.records = 2, .accepted = 1, .refused = {[8] = 1}}, {"02 23 34"}},
-    {"00 02 00 04 00 03 02 23 34 00 03 02 01 01", 68, {.records = 2, .accepted = 2}, {"02 23 34", "02 01 01"}},
-    {"00 03 00 04 00 02 02 29 00 03 02 23 34 01 0C 00 00 00 00 00 00 00 00 00 00 00 00", 62,
+    {"00 02 00 04 00 03 02 23 34 00 03 02 01 01", START + 5, {.records = 2, .accepted = 1, .refused = {[8] = 1}}, {"02 23 34"}},
+    {"00 02 00 04 00 03 02 23 34 00 03 02 01 01", START + 6, {.records = 2, .accepted = 2}, {"02 23 34", "02 01 01"}},
+    {"00 03 00 04 00 02 02 29 00 03 02 23 34 01 0C 00 00 00 00 00 00 00 00 00 00 00 00", START,
         {.records = 3, .skipped = 1, .refused = {[8] = 1}}, {0}},
     /* A form takes the other's place; the longer one lacks a byte. */
-    {"00 04 00 04 00 04 02 01 01 04 00 06 02 00 33 BE 27 A0 00 03 02 01 01 00 04 02 01 01 07", 72,
+    {"00 04 00 04 00 04 02 01 01 04 00 06 02 00 33 BE 27 A0 00 03 02 01 01 00 04 02 01 01 07", START + 10,
         {.records = 4, .accepted = 4}, {"02 01 01 07", "02 00 33 BE 27 A0"}},
-    {"00 03 00 04 00 03 02 01 01 00 06 02 00 33 BE 27 A0 00 04 02 01 01 07", 71,
+    {"00 03 00 04 00 03 02 01 01 00 06 02 00 33 BE 27 A0 00 04 02 01 01 07", START + 9,
         {.records = 3, .accepted = 2, .refused = {[8] = 1}}, {"02 01 01", "02 00 33 BE 27 A0"}},
     /* A sync word of 64 bits is put, one of 65 refused by 5, and the book keeps the first. */
-    {"00 02 00 04 00 0B 02 44 01 23 45 67 89 AB CD EF C0 00 0B 02 44 01 23 45 67 89 AB CD EF C1", 80,
+    {"00 02 00 04 00 0B 02 44 01 23 45 67 89 AB CD EF C0 00 0B 02 44 01 23 45 67 89 AB CD EF C1", START + 18,
         {.records = 2, .accepted = 1, .refused = {[5] = 1}}, {"02 44 01 23 45 67 89 AB CD EF C0"}},
     /* Every other refusal; an action in no counter; a request that is cut or too long is none. */
     {"00 09 00 04 00 00 00 01 02 00 02 03 23 00 03 02 28 00 00 04 02 22 00 80 00 04 02 20 40 10 00 02 02 28 00 03 02 29 00 "
-        "01 0C 00 00 00 00 00 00 00 00 00 00 00 00", 62,
+        "01 0C 00 00 00 00 00 00 00 00 00 00 00 00", START,
         {.records = 9, .skipped = 1, .refused = {[1] = 2, [2] = 1, [3] = 2, [4] = 1, [5] = 1}}, {0}},
     /* A response of no bytes; the last of two, behind an action's frame that is refused too. */
-    {"00 04 00 04 00 02 02 2A 01 00 01 08 00 00 00 01 00 00 00 00 01 08 00 00 00 02 80 FF FF FF", 62,
+    {"00 04 00 04 00 02 02 2A 01 00 01 08 00 00 00 01 00 00 00 00 01 08 00 00 00 02 80 FF FF FF", START,
         {.records = 4, .skipped = 1, .has_lora_packet_status = true,
             .lora_packet_status = {.pkt_length = 2, .snr_pkt = -128, .rssi_pkt = 511, .rssi_signal_pkt = 511, .detector = 15}}, {0}},
 };
@@ -114,16 +114,16 @@ static void by_hand(void) {
         holds(cases[i].size, cases[i].frames);
     }
     trying("hb_play of null", "", 0);
-    uint8_t *b = lend(62);
-    same_day(hb_play(NULL, 0, b, 62), (hb_day){.refusal = 15});
-    memcpy(book, b, 62);
-    holds(62, (const char *const[]){NULL});
+    uint8_t *b = lend(START);
+    same_day(hb_play(NULL, 0, b, START), (hb_day){.refusal = 15});
+    memcpy(book, b, START);
+    holds(START, (const char *const[]){NULL});
     lent--;
 }
 
 /* A buffer that is no book is refused before the trace is looked at, and keeps its bytes. */
 static void sizes(void) {
-    const size_t bad[] = {0, 1, 61, 4097, 4200};
+    const size_t bad[] = {0, 1, START - 1, 4097, 4200};
     uint8_t trace[200];
     for (size_t i = 0; i < 5; i++) {
         trying("hb_play", "size", bad[i]);
@@ -162,6 +162,6 @@ void test_plays(void) {
     by_hand();
     sizes();
     beginnings(4096);
-    beginnings(66);
+    beginnings(START + 4);
     test_rust_plays();
 }

@@ -40,10 +40,10 @@ fn wanted(day: &day::Day) -> hb::Day {
 // Most books have room for some settings and not for all; some have no length of a book.
 fn size(random: &mut Random) -> usize {
     match random.below(16) {
-        0 => random.below(62),
+        0 => random.below(START),
         1 => random.within(4090, 4200),
         2 => random.below(4201),
-        _ => random.within(62, 251),
+        _ => random.within(START, FULL + 20),
     }
 }
 

@@ -2,7 +2,7 @@
  * that stand here (REFERENCE, "Commands", "Book" and "Locker profile"). profiles.rs tries others, against another model. */
 #include "link.h"
 
-enum { HEAD = 62, SLOTS = 29, MOST = 4096, LONGEST = 4200, ANSWERS = 12 };
+enum { MOST = 4096, LONGEST = 4200, ANSWERS = 12 };
 
 /* ---- a book's bytes a second time */
 
@@ -10,7 +10,7 @@ enum { HEAD = 62, SLOTS = 29, MOST = 4096, LONGEST = 4200, ANSWERS = 12 };
 static const struct {
     uint8_t kind, opcode;
     const char *bits;
-} settings[SLOTS] = {{1, 0x20, "FF FF"}, {2, 0x21, "FF FF FF 07"}, {3, 0x22, "FF 01"}, {4, 0x23, "FF"}, {5, 0x26, "87 FF FF FF FF FF"},
+} settings[SETTINGS] = {{1, 0x20, "FF FF"}, {2, 0x21, "FF FF FF 07"}, {3, 0x22, "FF 01"}, {4, 0x23, "FF"}, {5, 0x26, "87 FF FF FF FF FF"},
     {6, 0x26, "87 FF FF FF FF FF 7F FF FF FF"}, {7, 0x27, "FF 1F FF FF FF FF FF"}, {11, 0x2B, "FF FF FF FF FF FF FF FF FF"}, {12, 0x2D, "1F 1F"},
     {13, 0x2E, "1F 1F 1F 1F 1F 1F"}, {14, 0x1D, "CF"}, {15, 0x1D, "FF 1F"}, {16, 0x40, "FF FF FF FF 0F FF FF FF FF"}, {17, 0x41, "FF FF FF 1F FF FF F1"},
     {18, 0x42, "1F FF"}, {19, 0x43, "FF FF FF FF FF FF FF FF"}, {20, 0x44, "FF FF FF FF FF FF FF FF FF"}, {21, 0x45, "FF FF"}, {24, 0x00, "FF FF FF FF"},
@@ -67,30 +67,30 @@ static size_t offset_of(const uint8_t *book, uint64_t kind) {
 static bool is_tiled(const uint8_t *book, size_t end) {
     bool taken[LONGEST] = {false};
     size_t count = 0;
-    for (size_t s = 0; s < SLOTS; s++) {
+    for (size_t s = 0; s < SETTINGS; s++) {
         size_t at = word(book + 4 + 2 * s);
         if (!at) continue;
-        if (at < HEAD || at + length_of(s) > end || !decodes(s, book + at)) return false;
+        if (at < START || at + length_of(s) > end || !decodes(s, book + at)) return false;
         for (size_t i = at; i < at + length_of(s); i++) {
             if (taken[i]) return false;
             taken[i] = true;
         }
         count++;
     }
-    for (size_t i = HEAD; i < end; i++)
+    for (size_t i = START; i < end; i++)
         if (!taken[i]) return false;
     return count == book[1];
 }
 
 /* 11, 10 or 16, or 0 for a book that calls take. */
 static uint32_t fault(const uint8_t *book, size_t n) {
-    static const uint8_t forms[][2] = {{5, 6}, {25, 26}, {27, 28}};
-    if (n < HEAD || n > MOST) return 11;
+    static const uint8_t forms[PAIRS][2] = {{5, 6}, {25, 26}, {27, 28}};
+    if (n < START || n > MOST) return 11;
     size_t end = word(book + 2);
-    if (book[0] != 1 || end < HEAD || end > n || !is_tiled(book, end)) return 10;
+    if (book[0] != VERSION || end < START || end > n || !is_tiled(book, end)) return 10;
     for (size_t i = end; i < n; i++)
         if (book[i]) return 10;
-    for (size_t i = 0; i < 3; i++)
+    for (size_t i = 0; i < PAIRS; i++)
         if (offset_of(book, forms[i][0]) && offset_of(book, forms[i][1])) return 16;
     return 0;
 }
@@ -141,7 +141,7 @@ typedef struct {
 /* A book before it is bytes. */
 static struct {
     size_t count;
-    held frames[SLOTS];
+    held frames[SETTINGS];
 } list;
 
 static void add(uint64_t kind, const char *frame) {
@@ -151,15 +151,15 @@ static void add(uint64_t kind, const char *frame) {
 }
 
 static size_t end_of_list(void) {
-    size_t end = HEAD;
+    size_t end = START;
     for (size_t i = 0; i < list.count; i++) end += list.frames[i].len;
     return end;
 }
 
 static void written(uint8_t *book, size_t n) {
-    size_t at = HEAD;
+    size_t at = START;
     memset(book, 0, n);
-    book[0] = 1;
+    book[0] = VERSION;
     book[1] = list.count;
     for (size_t i = 0; i < list.count; at += list.frames[i++].len) {
         book[4 + 2 * slot(list.frames[i].kind)] = at >> 8;
@@ -174,7 +174,7 @@ static void written(uint8_t *book, size_t n) {
 
 /* The three frames in this order, in a book that they fill; an empty text is a frame that is missing. */
 static void three(const char *modulation, const char *packet, const char *sync, uint32_t refusal, uint64_t rule) {
-    uint8_t book[HEAD + 13];
+    uint8_t book[START + 13];
     list.count = 0;
     if (*modulation) add(1, modulation);
     if (*packet) add(2, packet);
@@ -218,24 +218,24 @@ static void good_list(void) {
 /* A good book in buffers of every length; and with both forms of a setting, with and without the kinds that count. */
 static void buffers(void) {
     static uint8_t book[LONGEST];
-    static const uint8_t forms[] = {5, 25, 27};
+    static const uint8_t forms[PAIRS] = {5, 25, 27};
     good_list();
     written(book, sizeof book);
     for (size_t n = 0; n <= sizeof book; n++) {
         trying("hb_profile", "length", n);
-        same_answer(tried(book, n), n < HEAD || n > MOST ? 11 : n < HEAD + 13 ? 10 : 0, 0, 0);
+        same_answer(tried(book, n), n < START || n > MOST ? 11 : n < START + 13 ? 10 : 0, 0, 0);
     }
     for (size_t i = 0; i < 2 * sizeof forms; i++) {
         good_list();
         list.count = i % 2 ? 3 : 1;
         add(forms[i / 2], rows[forms[i / 2] - 1].frame);
         add(forms[i / 2] + 1u, rows[forms[i / 2]].frame);
-        written(book, 120);
+        written(book, START + 58);
         trying("hb_profile", "both forms", forms[i / 2]);
-        same_answer(tried(book, 120), 16, 0, 0);
-        book[119] = 1;
-        same_answer(tried(book, 120), 10, 0, 0);
-        same_answer(tried(book, 61), 11, 0, 0);
+        same_answer(tried(book, START + 58), 16, 0, 0);
+        book[START + 57] = 1;
+        same_answer(tried(book, START + 58), 10, 0, 0);
+        same_answer(tried(book, START - 1), 11, 0, 0);
     }
 }
 
@@ -259,7 +259,7 @@ static void add_lora(unsigned sf, unsigned width, unsigned rate, unsigned ldro, 
 }
 
 static void combinations(void) {
-    uint8_t book[HEAD + 13];
+    uint8_t book[START + 13];
     memset(met, 0, sizeof met);
     for (unsigned n = 0; n < 8 * 16 * 10 * 16; n++) {
         list.count = 0;
@@ -310,7 +310,7 @@ static size_t damaged(uint8_t *book, size_t n) {
     switch (some() % 8) {
     case 0: book[at] ^= 1 << some() % 8; return n;
     case 1: book[some() % 4] = some(); return n;
-    case 2: book[HEAD + some() % (n - HEAD + 1)] = some(); return n;
+    case 2: book[START + some() % (n - START + 1)] = some(); return n;
     case 3: return at;
     case 4: memset(book + n, 0, LONGEST - n); return n + some() % (LONGEST - n + 1);
     case 5: memcpy(book + slots[0], book + slots[1], 2); return n;

@@ -88,9 +88,13 @@ mod cmd {
 #[derive(Debug, Clone, Copy)]
 pub enum Lr2021Error { Pin, Spi, CmdFail, CmdErr, BusyTimeout, InvalidSize, Unknown }
 
+use book::{FULL, FULL_REPLAY, SLOTS, START, VERSION};
 use hoardbutton as hb;
 use hoardbutton::{Answer, Decoded, Frame, Step};
-use model::{commands, Built, Command};
+use model::{commands, Built, Command, KINDS};
+
+// The sizes that hoardbutton.rs has of the header are those of the plain list.
+const _: () = assert!(hb::BOOK_ALL == FULL && hb::REPLAY_MAX == FULL_REPLAY);
 
 extern "C" {
     static mut lent: u32;
@@ -241,7 +245,7 @@ fn refused(refusal: u32) -> Answer {
 }
 
 fn books() {
-    let (frame, book, out, reel, text) = (input(&[2, 0x23, 0x34]), output(65), output(3), output(4), output(11));
+    let (frame, book, out, reel, text) = (input(&[2, 0x23, 0x34]), output(START + 3), output(3), output(4), output(11));
     same("hb_book_clear of no book", hb::book_clear(book), refused(10));
     same("hb_book_make", (hb::book_make(book), hb::book_make(&mut [])), (done(0), refused(11)));
     same("hb_book_put", (hb::book_put(book, frame), hb::book_put(book, &[])), (done(0), refused(1)));
@@ -263,7 +267,7 @@ fn books() {
 
 // The receive path with its boost, the frequency, the path without the boost, and with it again; then a stored book that has it both ways.
 fn forms() {
-    let (book, reel) = (output(72), output(12));
+    let (book, reel) = (output(START + 10), output(12));
     same("hb_book_make", hb::book_make(book), done(0));
     for frame in [&[2, 1, 1, 4][..], &[2, 0, 0x33, 0xBE, 0x27, 0xA0], &[2, 1, 1], &[2, 1, 1, 7]] {
         same("hb_book_put", hb::book_put(book, frame), done(0));
@@ -271,9 +275,11 @@ fn forms() {
     same("hb_book_ask, hb_book_remove", (hb::book_ask(book, 25, reel), hb::book_remove(book, 25)), (refused(9), refused(9)));
     same("hb_book_replay", (hb::book_replay(book, reel), &*reel), (done(12), &[4, 2, 1, 1, 7, 6, 2, 0, 0x33, 0xBE, 0x27, 0xA0]));
     book.fill(0);
-    for (at, byte) in [(0, 1), (1, 2), (3, 69), (43, 62), (45, 65), (62, 2), (63, 1), (65, 2), (66, 1), (68, 7)] {
+    let start = START as u8;
+    for (at, byte) in [(0, VERSION), (1, 2), (3, start + 7), (43, start), (45, start + 3)] {
         book[at] = byte;
     }
+    book[START..START + 7].copy_from_slice(&[2, 1, 0, 2, 1, 0, 7]);
     same("hb_book_ask, hb_book_remove", (hb::book_ask(book, 25, reel), hb::book_remove(book, 26)), (refused(16), refused(16)));
     same("hb_book_put, hb_book_clear", (hb::book_put(book, &[2]), hb::book_clear(book)), (refused(16), refused(16)));
     same("hb_book_replay", hb::book_replay(book, reel), refused(16));
@@ -282,8 +288,8 @@ fn forms() {
 
 // The frequency and the FSK settings have two owners: each side fills its quota, and neither sees the other's frame.
 fn sides() {
-    let (book, out, reel, quotas) = (output(72), output(4), output(12), [6, 4]);
-    let mut owners = [1; 29];
+    let (book, out, reel, quotas) = (output(START + 10), output(4), output(12), [6, 4]);
+    let mut owners = [1; SLOTS];
     owners[12..18].fill(2);
     let (owners, frequency, addresses) = (input(&owners), input(&[2, 0, 0x33, 0xBE, 0x27, 0xA0]), input(&[2, 0x45, 17, 255]));
     same("hb_side_clear of no book", hb::side_clear(book, owners, quotas, 1), refused(10));

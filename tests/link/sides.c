@@ -9,7 +9,7 @@ typedef struct {
 } held;
 
 /* A list and a quota for each side, 1 and 2; and the table with the number of its entries that are lent. */
-static held lists[3][30];
+static held lists[3][SETTINGS + 1];
 static size_t counts[3], size, entries;
 static uint64_t quotas[3], tried;
 static uint8_t book[4097], owners[HB_SETTINGS + 1];
@@ -36,7 +36,7 @@ static unsigned earlier(const size_t *next) {
 
 /* The bytes that both lists have in a buffer of that size. */
 static void written(uint8_t *to) {
-    size_t next[3] = {0}, at = 62;
+    size_t next[3] = {0}, at = START;
     memset(to, 0, size);
     for (size_t i = counts[1] + counts[2]; i > 0; i--) {
         unsigned side = earlier(next);
@@ -46,7 +46,7 @@ static void written(uint8_t *to) {
         memcpy(to + at, h->bytes, h->len);
         at += h->len;
     }
-    const uint8_t head[] = {1, counts[1] + counts[2], at >> 8, at};
+    const uint8_t head[] = {VERSION, counts[1] + counts[2], at >> 8, at};
     memcpy(to, head, sizeof head);
 }
 
@@ -179,7 +179,7 @@ static void fsk_is_the_operators(void) {
 /* Each has filled its quota: 13 bytes, and 15. */
 static void both_full(void) {
     fsk_is_the_operators();
-    fresh(90, 13, 15);
+    fresh(START + 28, 13, 15);
     put(1, 24, "02 00 33 BE 27 A0");
     put(2, 16, "02 40 00 00 C3 50 00 1F 00 61 A8");
     put(1, 1, "02 20 74 10");
@@ -191,7 +191,7 @@ static void both_full(void) {
 static void story(void) {
     uint8_t reel[40];
     fsk_is_the_operators();
-    fresh(90, 13, 15);
+    fresh(START + 28, 13, 15);
     same("put", put(1, 24, "02 00 33 BE 27 A0") + put(1, 1, "02 20 74 10") + put(1, 4, "02 23 34"), 0);
     same("put over the quota", put(1, 25, "02 01 00"), 8);
     same("put", put(2, 16, "02 40 00 00 C3 50 00 1F 00 61 A8") + put(2, 21, "02 45 11 FF"), 0);
@@ -205,10 +205,10 @@ static void story(void) {
     same("whole replay", hb_book_replay(book, size, NULL, 0).refusal, 12);
     same("put over what is held", put(1, 24, "02 00 33 BE 27 A1"), 0);
     clear(2);
-    same("end", book[3], 62 + 13);
+    same("end", book[3], START + 13);
     same("put over the quota", put(1, 25, "02 01 00"), 8);
     clear(1);
-    same("end", book[3], 62);
+    same("end", book[3], START);
 }
 
 /* Both forms stand for one setting of one side, and 8 reads that side's quota: in 9 bytes the longer form has no room where the shorter one
@@ -216,7 +216,7 @@ static void story(void) {
 static void swaps(void) {
     for (uint64_t lacking = 0; lacking < 2; lacking++) {
         fsk_is_the_operators();
-        fresh(200, 10 - lacking, 100);
+        fresh(START + 138, 10 - lacking, 100);
         put(1, 25, "02 01 00");
         put(2, 21, "02 45 11 FF");
         put(1, 24, "02 00 33 BE 27 A0");
@@ -248,8 +248,8 @@ static void refuses_all(uint64_t caller, uint32_t refusal) {
 
 /* The book's own refusals come first: table, quotas and caller may be wrong too. */
 static void books(void) {
-    static const size_t sizes[] = {0, 1, 61, 4097};
-    static const uint8_t both_forms[90] = {1, 2, [3] = 69, [43] = 62, [45] = 65, [62] = 2, 1, 1, 2, 1, 1, 4};
+    static const size_t sizes[] = {0, 1, START - 1, 4097};
+    static const uint8_t both_forms[START + 28] = {VERSION, 2, [3] = START + 7, [43] = START, [45] = START + 3, [START] = 2, 1, 1, 2, 1, 1, 4};
     for (uint64_t caller = 1; caller <= 3; caller++) {
         both_full();
         if (caller == 3) quotas[entries = 2] = UINT64_MAX;
@@ -258,8 +258,8 @@ static void books(void) {
             trying("a book of a bad size", "size", size);
             refuses_all(caller, 11);
         }
-        size = 90;
-        book[0] = 2;
+        size = sizeof both_forms;
+        book[0] = VERSION + 1;
         trying("a book of another version", "caller", caller);
         refuses_all(caller, 10);
         memcpy(book, both_forms, size);
@@ -273,12 +273,13 @@ static const struct {
     size_t entries;
     unsigned slot, owner;
     uint64_t quota1, quota2, caller;
-} wrong[] = {{0, 0, 1, 13, 15, 1}, {28, 0, 1, 13, 15, 2}, {30, 0, 1, 13, 15, 1}, {29, 0, 0, 13, 15, 1}, {29, 28, 3, 13, 15, 2}, {29, 12, 255, 13, 15, 1},
-    {29, 4, 2, 13, 15, 1}, {29, 5, 2, 13, 15, 2}, {29, 19, 2, 13, 15, 1}, {29, 20, 2, 13, 15, 2}, {29, 21, 2, 13, 15, 1}, {29, 22, 2, 13, 15, 2},
-    {29, 0, 1, 14, 15, 1}, {29, 0, 1, 13, 16, 2}, {29, 0, 1, UINT64_MAX, 15, 1}, {29, 0, 1, 13, UINT64_MAX - 12, 2}, {29, 0, 1, 29, UINT64_MAX, 1},
-    {29, 0, 1, (uint64_t)1 << 63, (uint64_t)1 << 63, 2}, {29, 0, 1, 12, 15, 1}, {29, 0, 1, 12, 15, 2}, {29, 0, 1, 13, 14, 1}, {29, 0, 1, 13, 14, 2},
-    {29, 0, 1, 0, 28, 2}, {29, 0, 1, 13, 15, 0}, {29, 0, 1, 13, 15, 3}, {29, 0, 1, 13, 15, 257}, {29, 0, 1, 13, 15, ((uint64_t)1 << 32) + 1},
-    {29, 0, 1, 13, 15, UINT64_MAX}};
+} wrong[] = {{0, 0, 1, 13, 15, 1}, {SLOTS - 1, 0, 1, 13, 15, 2}, {SLOTS + 1, 0, 1, 13, 15, 1}, {SLOTS, 0, 0, 13, 15, 1}, {SLOTS, SLOTS - 1, 3, 13, 15, 2},
+    {SLOTS, 12, 255, 13, 15, 1}, {SLOTS, 4, 2, 13, 15, 1}, {SLOTS, 5, 2, 13, 15, 2}, {SLOTS, 19, 2, 13, 15, 1}, {SLOTS, 20, 2, 13, 15, 2},
+    {SLOTS, 21, 2, 13, 15, 1}, {SLOTS, 22, 2, 13, 15, 2}, {SLOTS, 0, 1, 14, 15, 1}, {SLOTS, 0, 1, 13, 16, 2}, {SLOTS, 0, 1, UINT64_MAX, 15, 1},
+    {SLOTS, 0, 1, 13, UINT64_MAX - 12, 2}, {SLOTS, 0, 1, 29, UINT64_MAX, 1}, {SLOTS, 0, 1, (uint64_t)1 << 63, (uint64_t)1 << 63, 2},
+    {SLOTS, 0, 1, 12, 15, 1}, {SLOTS, 0, 1, 12, 15, 2}, {SLOTS, 0, 1, 13, 14, 1}, {SLOTS, 0, 1, 13, 14, 2}, {SLOTS, 0, 1, 0, 28, 2},
+    {SLOTS, 0, 1, 13, 15, 0}, {SLOTS, 0, 1, 13, 15, 3}, {SLOTS, 0, 1, 13, 15, 257}, {SLOTS, 0, 1, 13, 15, ((uint64_t)1 << 32) + 1},
+    {SLOTS, 0, 1, 13, 15, UINT64_MAX}};
 
 static void tables(void) {
     for (size_t i = 0; i < sizeof wrong / sizeof *wrong; i++) {
@@ -308,7 +309,7 @@ static void requests(void) {
     } frames[] = {{1, "", 1, 0}, {2, "02", 1, 0}, {1, "03 23 34", 2, 0}, {2, "02 23", 3, 0}, {1, "02 22 00 80", 4, 3}, {2, "02 22 00 80", 4, 3},
         {1, "02 20 40 10", 5, 2}, {2, "02 20 40 10", 5, 2}, {1, "02 28", 13, 0}, {2, "02 46", 13, 0}, {1, "02 40 00 00 C3 50 00 1F 00 61 A8", 18, 0},
         {1, "02 42 00 00", 18, 0}, {2, "02 23 34", 18, 0}, {2, "02 2B 00 00 00 00 00 00 00 00 00", 18, 0}, {1, "02 0F 00", 8, 0}, {2, "02 42 00 00", 8, 0}};
-    static const uint64_t kinds[][3] = {{1, 0, 13}, {2, 8, 13}, {1, 37, 13}, {2, 40, 13}, {1, 260, 13}, {2, ((uint64_t)1 << 32) + 16, 13},
+    static const uint64_t kinds[][3] = {{1, 0, 13}, {2, 8, 13}, {1, 37, 13}, {2, KINDS + 1, 13}, {1, 260, 13}, {2, ((uint64_t)1 << 32) + 16, 13},
         {1, UINT64_MAX, 13}, {1, 16, 18}, {1, 18, 18}, {2, 24, 18}, {2, 26, 18}, {1, 25, 9}, {1, 39, 9}, {2, 17, 9}};
     both_full();
     for (size_t i = 0; i < sizeof frames / sizeof *frames; i++) {
@@ -331,7 +332,7 @@ static void slots(void) {
         memset(owners, 1, entries = HB_SETTINGS);
         owners[slot(kind)] = 2;
         if (other) owners[slot(other)] = 2;
-        fresh(100, 26, 12);
+        fresh(START + 38, 26, 12);
         same("put, the other's", put(1, kind, rows[i].frame), 18);
         same("put", put(2, kind, rows[i].frame), 0);
         if (other) same("put of the other form, the other's", put(1, other, rows[other - 1].frame), 18);
@@ -361,7 +362,7 @@ static void any_table(size_t room) {
 
 static void history(size_t n) {
     static const uint64_t odd[] = {0, 3, 257, UINT64_MAX};
-    any_table(n - 62);
+    any_table(n - START);
     fresh(n, quotas[1], quotas[2]);
     for (unsigned i = 0; i < 200; i++) {
         const row *r = &rows[some() % KINDS];
@@ -375,7 +376,8 @@ static void history(size_t n) {
 }
 
 void test_sides(void) {
-    static const size_t good[] = {62, 65, 72, 80, 90, 100, 110, 120, 135, 150, 170, 200, 230, 231, 300, 4096};
+    static const size_t good[] = {START, START + 3, START + 10, START + 18, START + 28, START + 38, START + 48, START + 58, START + 73, START + 88,
+        START + 108, START + 138, FULL - 1, FULL, FULL + 69, 4096};
     story();
     swaps();
     books();

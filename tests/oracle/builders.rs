@@ -1,7 +1,11 @@
-// The 39 plain builders: what arguments each kind takes, and the frame that the Rust builds of them.
+// The plain builders: what arguments each kind takes, and the frame that the Rust builds of them.
 #[cfg(source)]
 use crate::cmd::{cmd_common::*, cmd_fsk::*, cmd_lora::*};
 use crate::enums::*;
+use crate::model::KINDS;
+
+// A request for a plain builder has the kind as its operation, 1 to this one.
+pub const LAST: u8 = KINDS as u8;
 
 // An argument: one of these codes, or any number of a type of `width` bits, of which the frame holds `field`.
 #[derive(Clone, Copy)]

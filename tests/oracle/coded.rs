@@ -1,5 +1,5 @@
 // Requests to the decoder and the checked builder: good frames and arguments, each damaged in every way that is refused.
-use crate::model::{checked, commands, Built, Command, Field};
+use crate::model::{checked, commands, Built, Command, Field, KINDS};
 use crate::sets::{Random, Set};
 use std::io::Result;
 
@@ -135,7 +135,7 @@ fn counts(set: &mut Set, is_wide: bool) -> Result<()> {
 }
 
 fn kinds(set: &mut Set) -> Result<()> {
-    for kind in [0, 40, 41, 127, 128, 255, 256, 257, 295, 300, 1 << 16, 1 << 32, (1 << 32) + 1, 1 << 63, u64::MAX] {
+    for kind in [0, KINDS + 1, KINDS + 2, 127, 128, 255, 256, 257, 256 + KINDS, 300, 1 << 16, 1 << 32, (1 << 32) + 1, 1 << 63, u64::MAX] {
         for count in 0..=3 {
             build(set, kind, &[0, 1, 2][..count])?;
         }

@@ -1,12 +1,12 @@
 // Books for the locker profile: every combination of what its rules look at, and random ones, good and damaged.
-use crate::book::{image, other_form, weight, Frame, SETTINGS};
+use crate::book::{image, other_form, weight, Frame, SETTINGS, SLOTS, START};
 use crate::enums::*;
 use crate::frames::{good, Random};
 use crate::model::{checked, Built};
 use crate::profile::is_long;
 
 // A book with nothing but frames of kinds 1, 2 and 4.
-pub const STORED: usize = 75;
+pub const STORED: usize = START + 13;
 const TWO: &[u64] = &[0, 1];
 const SYNCWORDS: &[u64] = &[0x12, 0x34];
 pub const COMBINATIONS: usize = SF.len() * LORA_BW.len() * LORA_CR.len() * LDRO.len() * HEADER_TYPE.len() * TWO.len() * SYNCWORDS.len();
@@ -114,28 +114,28 @@ fn damage(random: &mut Random, bytes: &mut Vec<u8>, longest: usize) {
     match random.below(10) {
         0 => bytes[at] ^= 1 << random.below(8),
         1 => bytes[random.below(4)] = random.byte(),
-        2 => bytes[random.within(4, 61)] = random.byte(),
-        3 if bytes.len() > 62 => bytes[random.within(62, at.max(62))] = random.byte(),
+        2 => bytes[random.within(4, START - 1)] = random.byte(),
+        3 if bytes.len() > START => bytes[random.within(START, at.max(START))] = random.byte(),
         3 | 4 => bytes.truncate(at),
         5 => bytes.resize(random.within(at, longest), 0),
         6 => bytes.resize(random.within(at, longest), 1),
         7 => {
-            let (a, b) = (offset_at(random.below(29)), offset_at(random.below(29)));
+            let (a, b) = (offset_at(random.below(SLOTS)), offset_at(random.below(SLOTS)));
             bytes.swap(a, b);
             bytes.swap(a + 1, b + 1);
         }
         8 => {
-            let (a, b) = (offset_at(random.below(29)), offset_at(random.below(29)));
+            let (a, b) = (offset_at(random.below(SLOTS)), offset_at(random.below(SLOTS)));
             bytes.copy_within(a..a + 2, b);
         }
         _ => *bytes = random.bytes(at),
     }
 }
 
-// A book of at most so many bytes, 62 or more; one in five is damaged.
+// A book of at most so many bytes, which have room for a header; one in five is damaged.
 pub fn any_book(random: &mut Random, longest: usize) -> Vec<u8> {
-    let frames = any_frames(random, longest.min(4096) - 62);
-    let least = 62 + weight(&frames);
+    let frames = any_frames(random, longest.min(4096) - START);
+    let least = START + weight(&frames);
     let size = match random.below(32) {
         0 => longest,
         1 => random.within(least, longest),

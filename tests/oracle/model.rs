@@ -78,6 +78,9 @@ const LINES: &str = "\
 38 021A/3 gain_step 2.3-0
 39 021B/10 cad_timeout 2-4, threshold 5, exit_mode 6.1-0, trx_timeout 7-9";
 
+// How many kinds that are: their numbers are 1 to this one.
+pub const KINDS: u64 = 39;
+
 fn codes_of(name: &str) -> Option<&'static [u64]> {
     Some(match name {
         "sf" => SF,

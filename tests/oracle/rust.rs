@@ -1,6 +1,6 @@
 // The answers that the Rust has, by its files as they stand.
 use super::{arguments_of, Part};
-use crate::builders::frame;
+use crate::builders::{frame, LAST};
 use crate::cmd::cmd_common::{CcaResultRsp, RssiInstRsp, TimestampValueRsp};
 use crate::cmd::cmd_fsk::{FskPacketStatusRsp, FskRxStatsRsp};
 use crate::cmd::cmd_lora::{LoraPacketStatusRsp, LoraRxStatsRsp};
@@ -42,7 +42,7 @@ macro_rules! response {
 pub fn answer(to: &mut Vec<u8>, op: u8, slice: &[u8], payload: &[u8; PAYLOAD]) {
     let (x, y) = (payload[0] as u64, payload[1] as u64);
     match op {
-        1..=39 => {
+        1..=LAST => {
             let f = frame(op, &arguments_of(payload));
             to.push(f.len() as u8);
             to.extend(f);

@@ -1,7 +1,7 @@
 // The requests: the wide set and the sample. Both are the same on every run: the random numbers have a fixed seed.
 use crate::answers::{answer, is_the_rusts};
 use crate::banks::banks;
-use crate::builders::{arguments, Argument};
+use crate::builders::{arguments, Argument, LAST};
 use crate::coded::codec;
 use crate::enums::{LORA_BW, LORA_CR, SF};
 use crate::frames;
@@ -261,7 +261,7 @@ fn some(set: &mut Set, kind: u8, takes: &[Argument]) -> Result<()> {
 }
 
 fn builders(set: &mut Set, is_wide: bool) -> Result<()> {
-    for kind in 1..=39 {
+    for kind in 1..=LAST {
         match kind {
             1 => set.group("builders of cmd_lora.rs, kinds 1 to 15"),
             16 => set.group("builders of cmd_fsk.rs, kinds 16 to 23"),

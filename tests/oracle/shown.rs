@@ -1,6 +1,6 @@
 // The first request whose two answers differ, in a form to read.
 use crate::answers::arguments_of;
-use crate::builders::arguments;
+use crate::builders::{arguments, LAST};
 use crate::{ANSWER, HEAD, PAYLOAD, REQUEST};
 use std::io::Result;
 
@@ -51,7 +51,7 @@ fn shown(request: &[u8]) -> String {
     let mut payload = [0; PAYLOAD];
     payload.copy_from_slice(&request[HEAD..]);
     match request[0] {
-        kind @ 1..=39 => {
+        kind @ 1..=LAST => {
             let count = arguments(kind).len();
             format!("builder of kind {}, arguments {:?}", kind, &arguments_of(&payload)[..count])
         }

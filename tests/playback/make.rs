@@ -85,7 +85,7 @@ impl Maker {
     fn records(&mut self, count: usize) -> Vec<(u8, Vec<u8>)> {
         self.kinds = SETTINGS.to_vec();
         self.random.shuffle(&mut self.kinds);
-        self.kinds.truncate(self.random.one_of(&[2, 4, 29]));
+        self.kinds.truncate(self.random.one_of(&[2, 4, SETTINGS.len()]));
         self.fitting = None;
         (0..count).map(|_| if self.random.percent(60) { (0, self.sent()) } else { (1, self.received()) }).collect()
     }

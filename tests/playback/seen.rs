@@ -1,5 +1,5 @@
 // What the traces came to: each event, fault and shape has to be met.
-use crate::book::{other_form, ACTIONS, FORMS, SETTINGS};
+use crate::book::{other_form, ACTIONS, FORMS, MOST_FRAMES, SETTINGS};
 use crate::day::{records, word, Day, Event, Fault, Latest, REQUESTS};
 use std::collections::{BTreeMap, BTreeSet};
 
@@ -48,7 +48,7 @@ fn shapes(trace: &[u8], day: &Day) -> [bool; SHAPES.len()] {
         !found.is_empty() && day.fault.is_none() && end < trace.len(),
         found.iter().any(|r| r.bytes.is_empty()),
         found.iter().any(|r| r.bytes.len() == 255),
-        day.book.content.as_ref().map_or(false, |frames| frames.len() == SETTINGS.len() - FORMS.len()),
+        day.book.content.as_ref().map_or(false, |frames| frames.len() == MOST_FRAMES),
     ]
 }
 
