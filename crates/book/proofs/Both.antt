@@ -11,16 +11,17 @@ use lib.ListN.{length}
 use Rattle.refusal.specs.declared.Refusal.{Refusal}
 use Rattle.refusal.specs.declared.Refusal.the-variants.{BothForms}
 use Rattle.refusal.specs.Numbers.{numberOf}
-use Rattle.contents.specs.Contents.{Contents, Layout, holds, judge, refused}
+use Rattle.contents.specs.Contents.{Contents, Layout, holds, judge, longest, refused, roomOf, start}
 use Rattle.contents.proofs.Places.{judge-own}
 use Rattle.forms.specs.Forms.{single}
 use Rattle.forms.proofs.Forms.{forms-single}
 use Rattle.book.specs.declared.Answer.the-variants.{Refused}
-use Rattle.book.specs.Book.{agreed, call, opened, ours}
-use Rattle.book.specs.History.{Ask, Call, Clear, Make, Put, Remove, Replay, after, onBytes, onList, turn}
+use Rattle.book.specs.Book.{Edit, Read, Use, agreed, callFor, layoutIn, opened, openedFor, ours, verdict}
+use Rattle.book.specs.History.{Ask, Call, Clear, Make, Put, Remove, Replay, after, onBytes, onList, turn, wants}
 use Rattle.book.specs.Plain.{Turn}
 use Rattle.codec.proofs.Places.{decode-own}
 use Rattle.book.proofs.Calls.{opened-forms, opened-judge}
+use Rattle.book.proofs.Versions.{edit-opened, edit-serves}
 use Rattle.book.proofs.Keeps.{lentTo}
 use Rattle.book.proofs.Places.{Says, Steps, after-says, made-says}
 use Rattle.book.proofs.Single.{history-opens}
@@ -35,28 +36,29 @@ isMake Clear = false
 isMake (Replay o) = false
 
 -- a call that is refused before anything is asked
-module _ (l : Layout) (b : List ℕ) (x : Refusal) (e : opened l b ≡ refused x) where
-  call-refused : (s : List ℕ → ℕ → List (List ℕ) → Turn) (o : List ℕ) → call l s o b ≡ record { answer = Refused x; output = o; bytes = b }
-  unfolding call
-  call-refused s o = rw e
+module _ (b : List ℕ) (x : Refusal) where
+  call-refused : (u : Use) → openedFor u b ≡ refused x → (s : List ℕ → ℕ → List (List ℕ) → Turn) (o : List ℕ)
+      → callFor u s o b ≡ record { answer = Refused x; output = o; bytes = b }
+  unfolding callFor
+  call-refused u e s o = rw e
 
-  after-refused : (c : Call) → isMake c ≡ false → after l c b ≡ record { answer = Refused x; output = lentTo c; bytes = b }
-  after-refused Make n = absurd (false≢true (sym n))
-  after-refused (Put f) n = call-refused _ []
-  after-refused (Remove k) n = call-refused _ []
-  after-refused (Ask k o) n = call-refused _ o
-  after-refused Clear n = call-refused _ []
-  after-refused (Replay o) n = call-refused _ o
+  after-refused : (c : Call) → isMake c ≡ false → openedFor (wants c) b ≡ refused x → after c b ≡ record { answer = Refused x; output = lentTo c; bytes = b }
+  after-refused Make n e = absurd (false≢true (sym n))
+  after-refused (Put f) n e = call-refused Edit e _ []
+  after-refused (Remove k) n e = call-refused Edit e _ []
+  after-refused (Ask k o) n e = call-refused Read e _ o
+  after-refused Clear n e = call-refused Edit e _ []
+  after-refused (Replay o) n e = call-refused Read e _ o
 
-module _ (l : Layout) (b : List ℕ) (c : Call) (n : isMake c ≡ false) where
-  pub both-refused : (fs : List (List ℕ)) → judge l b ≡ holds fs → single fs ≡ false
-      → after l c b ≡ record { answer = Refused BothForms; output = lentTo c; bytes = b }
-  unfolding opened
-  both-refused fs e s = after-refused l b BothForms (rw (e, s)) c n
+module _ (b : List ℕ) (c : Call) (n : isMake c ≡ false) where
+  pub ten-first : (x : Refusal) → judge (layoutIn b) b ≡ refused x → after c b ≡ record { answer = Refused x; output = lentTo c; bytes = b }
+  unfolding openedFor opened
+  ten-first x e = after-refused b x c n (rw e)
 
-  pub ten-first : (x : Refusal) → judge l b ≡ refused x → after l c b ≡ record { answer = Refused x; output = lentTo c; bytes = b }
-  unfolding opened
-  ten-first x e = after-refused l b x (rw e) c n
+  pub both-refused : (fs : List (List ℕ)) → judge (layoutIn b) b ≡ holds fs → single fs ≡ false
+      → after c b ≡ record { answer = Refused BothForms; output = lentTo c; bytes = b }
+  unfolding openedFor opened
+  both-refused fs e o = after-refused b BothForms c n (rw (e, o))
 
 -- the frames of a book that gets 16
 pub record Both (l : Layout) (b : List ℕ) : Type 0 where
@@ -66,7 +68,10 @@ pub record Both (l : Layout) (b : List ℕ) : Type 0 where
 
 -- ---- no other 16
 
-module _ (l : Layout) (b : List ℕ) where
+module _ (b : List ℕ) where
+  l : Layout
+  l = layoutIn b
+
   -- a refusal by 16 tells of both forms
   abbrev Tells16 : Refusal → Type 0
   Tells16 x = numberOf x ≡ 16 → Both l b
@@ -80,9 +85,10 @@ module _ (l : Layout) (b : List ℕ) where
     frame = λ f x d e. absurd (omega (arith, decode-own f x d));
   }
 
-  own : (x : Refusal) → opened l b ≡ refused x → numberOf x ≡ 16 → Both l b
-  unfolding opened
-  own x e n = go (judge l b) refl e
+  -- which a book of its layout holds
+  two-forms : (x : Refusal) → opened l b ≡ refused x → numberOf x ≡ 16 → Both l b
+  unfolding opened l
+  two-forms x e n = go (judge l b) refl e
     where
       number : Contents → ℕ
       number (refused y) = numberOf y
@@ -96,15 +102,20 @@ module _ (l : Layout) (b : List ℕ) where
           by false s z = record { frames = fs; reads = w; two = s }
           by true s z = let h : 0 ≡ numberOf x = ap number z in absurd (omega arith)
 
+  own : (u : Use) (x : Refusal) → openedFor u b ≡ refused x → numberOf x ≡ 16 → Both l b
+  unfolding openedFor l
+  own u x e n = two-forms x e n
+
   -- whatever the call and the bytes: who hears 16 called a book that holds both forms
-  pub sixteen-only : (c : Call) → after l c b .answer ≡ Refused BothForms → (isMake c ≡ false) × Both l b
-  sixteen-only c e = (opens c e, subst (Says Tells16) e (after-says Tells16 steps-none l b own (λ n. absurd (omega arith)) c) refl)
+  pub sixteen-only : (c : Call) → after c b .answer ≡ Refused BothForms → (isMake c ≡ false) × Both (layoutIn b) b
+  unfolding l
+  sixteen-only c e = (opens c e, subst (Says Tells16) e (after-says Tells16 steps-none b own (λ n. absurd (omega arith)) c) refl)
     where
       Eleven : Refusal → Type 0
       Eleven x = numberOf x ≡ 11
 
-      opens : (c : Call) → after l c b .answer ≡ Refused BothForms → isMake c ≡ false
-      opens Make e = absurd (let n : _≡_ {A = ℕ} 16 11 = subst (Says Eleven) e (made-says Eleven l b refl) in omega arith)
+      opens : (c : Call) → after c b .answer ≡ Refused BothForms → isMake c ≡ false
+      opens Make e = absurd (let n : _≡_ {A = ℕ} 16 11 = subst (Says Eleven) e (made-says Eleven ours b refl) in omega arith)
       opens (Put f) e = refl
       opens (Remove k) e = refl
       opens (Ask k o) e = refl
@@ -112,11 +123,15 @@ module _ (l : Layout) (b : List ℕ) where
       opens (Replay o) e = refl
 
 -- NO CALL OF OURS EVER LEADS TO A 16: after a make and whatever calls, no call gets it
-pub never-sixteen : (b : List ℕ) → 62 ≤ length b → length b ≤ 4096 → (cs : List Call) (c : Call)
-    → after ours c (onBytes (after ours) (Make ∷ cs) b .bytes) .answer ≡ Refused BothForms → ⊥
+pub never-sixteen : (b : List ℕ) → start (ours .slots) ≤ length b → length b ≤ longest → (cs : List Call) (c : Call)
+    → after c (onBytes after (Make ∷ cs) b .bytes) .answer ≡ Refused BothForms → ⊥
 never-sixteen b low high cs c e =
-    let two = sixteen-only ours (onBytes (after ours) (Make ∷ cs) b .bytes) c e .1 in
-    let opens = history-opens b low high cs in
-    let same : holds (two .frames) ≡ holds (onList (turn (length b - 62)) (Make ∷ cs) [] .frames) = sym (two .reads) ∙ opened-judge ours _ _ opens in
-    let frames : two .frames ≡ onList (turn (length b - 62)) (Make ∷ cs) [] .frames = cc in
+    let x : List ℕ = onBytes after (Make ∷ cs) b .bytes in
+    let two = sixteen-only x c e .1 in
+    let opens = edit-opened x _ (history-opens b low high cs Edit) in
+    let reads = opened-judge ours _ _ opens in
+    let own : layoutIn x ≡ ours = edit-serves x 0 (sym (ap verdict (history-opens b low high cs Edit))) .layout in
+    let same : holds (two .frames) ≡ holds (onList (turn (roomOf ours (length b))) (Make ∷ cs) [] .frames) =
+    sym (two .reads) ∙ ap (λ (l : Layout). judge l x) own ∙ reads in
+    let frames : two .frames ≡ onList (turn (roomOf ours (length b))) (Make ∷ cs) [] .frames = cc in
     false≢true (sym (two .two) ∙ ap single frames ∙ forms-single _ (opened-forms ours _ _ opens))

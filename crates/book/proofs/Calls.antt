@@ -6,7 +6,8 @@ use mathlib.Core.Bool.{Bool, cond, false, not, true}
 use mathlib.Core.List.{List, [], append-nil, _++_, _∷_}
 use Prim.Native.Nat.{suc, zero, ℕ, _%_, _*_, _+_, _-_, _/_, _<_, _≤_}
 use native.Mathlib.Omega.{arith}
-use borrow.Author.Tests.{eq-eqb, le-leb, lt-leb, ne-eqb}
+use borrow.Author.Tests.{le-leb, lt-leb}
+use lib.Dec.{eqb}
 use lib.ListN.{drop, length, length-replicate, replicate, replicate-append-replicate, set, take}
 use lib.Seq.{drop-length, paste, take-all}
 use Rattle.refusal.specs.declared.Refusal.{Refusal}
@@ -14,16 +15,14 @@ use Rattle.refusal.specs.declared.Refusal.the-variants.{BothForms, BufferSize}
 use Rattle.contents.specs.declared.Verdict.the-variants as checked
 use Rattle.book.specs.declared.Answer.{Answer}
 use Rattle.book.specs.declared.Answer.the-variants.{Done, Refused}
-use Rattle.table.specs.Table.{settings}
 use Rattle.contents.specs.Frames.{flat, held, place}
-use Rattle.contents.specs.Contents.{Contents, Layout, header, holds, image, judge, longest, offsetAt, presentAt, refused, roomOf, start, verdictOf, words}
-use Rattle.contents.proofs.Shape.{place-ge, place-none}
-use Rattle.contents.proofs.Judged.{Bytes, Reads, apart, judge-image, judge-reads, offsets}
+use Rattle.contents.specs.Contents.{Contents, Layout, header, holds, image, judge, longest, presentAt, presentFor, refused, roomOf, start, verdictOf, words}
+use Rattle.contents.proofs.Judged.{Bytes, Reads, apart, judge-image, judge-reads}
+use Rattle.contents.proofs.Offsets.{offset-among, present-tells}
 use Rattle.forms.specs.Forms.{inBoth, single}
 use Rattle.forms.proofs.Forms.{OneForm, both-agree, single-forms}
 use Rattle.book.specs.Plain.{Turn, become, clearOn}
 use Rattle.book.specs.Book.{agreed, call, made, opened, verdict}
-use Rattle.book.specs.Edits.{setWord}
 
 -- an answer is not both
 pub done-refused : (n : ℕ) (x : Refusal) → Done n ≡ Refused x → ⊥
@@ -70,33 +69,26 @@ ready-refused l b x e = go (judge l b) e
 
 -- the offsets of a header tell which slots are held
 pub present-held : (l : Layout) (b : List ℕ) (fs : List (List ℕ)) → judge l b ≡ holds fs → (s : ℕ) → s < l .slots → presentAt b s ≡ held s fs
-present-held l b fs h s a = go (held s fs) refl
-  where
-    o : offsetAt b s ≡ place (start (l .slots)) fs s
-    o = offsets l b fs (judge-reads l b fs h) s a
-
-    go : (t : Bool) → held s fs ≡ t → presentAt b s ≡ held s fs
-    go true q = rw (ne-eqb (offsetAt b s) 0 (λ z. absurd (omega (arith, o, place-ge (start (l .slots)) fs s q))), q)
-    go false q = rw (eq-eqb (offsetAt b s) 0 (o ∙ place-none (start (l .slots)) fs s q), q)
+present-held l b fs h s a = ap (λ (o : ℕ). not (eqb o 0)) (sym (offset-among (l .slots) b s a)) ∙ present-tells l b fs h s
 
 -- and so whether a setting is held in both its forms
-module _ (l : Layout) (big : settings ≤ l .slots) (b : List ℕ) (ok : checked.WellFormed ≡ verdictOf (judge l b)) where
-  sorted : (t : Bool) → inBoth (presentAt b) ≡ t → verdict (opened l b) ≡ cond t (Refused BothForms) (Done 0)
+module _ (l : Layout) (b : List ℕ) (ok : checked.WellFormed ≡ verdictOf (judge l b)) where
+  sorted : (t : Bool) → inBoth (presentFor (l .slots) b) ≡ t → verdict (opened l b) ≡ cond t (Refused BothForms) (Done 0)
   unfolding opened single
   sorted t e = go (judge l b) refl ok
     where
       go : (r : Contents) → judge l b ≡ r → checked.WellFormed ≡ verdictOf r → verdict (agreed (judge l b)) ≡ cond t (Refused BothForms) (Done 0)
       go (refused y) w z = absurd (apart (cc))
-      go (holds fs) w z = rw (w, ← both-agree (presentAt b) (λ s. held s fs) (λ s a. present-held l b fs w s (omega arith)), e) (by t)
+      go (holds fs) w z = rw (w, ← both-agree (presentFor (l .slots) b) (λ s. held s fs) (λ s a. present-tells l b fs w s), e) (by t)
         where
           by : (t : Bool) → verdict (cond (not t) (holds fs) (refused BothForms)) ≡ cond t (Refused BothForms) (Done 0)
           by true = refl
           by false = refl
 
-  pub ready-both : inBoth (presentAt b) ≡ true → Refused BothForms ≡ verdict (opened l b)
+  pub ready-both : inBoth (presentFor (l .slots) b) ≡ true → Refused BothForms ≡ verdict (opened l b)
   ready-both e = sym (sorted true e)
 
-  pub ready-one : inBoth (presentAt b) ≡ false → Done 0 ≡ verdict (opened l b)
+  pub ready-one : inBoth (presentFor (l .slots) b) ≡ false → Done 0 ≡ verdict (opened l b)
   ready-one e = sym (sorted false e)
 
 -- what opens is the image of its frames
@@ -133,48 +125,6 @@ accept l s o b h t y e q =
     }
 
 -- ---- the empty book
-
-words-none : (p l k : ℕ) → words l k (place p []) ≡ replicate (2 * l) 0
-unfolding words place
-words-none p zero k = refl
-words-none p (suc l) k = ap (λ (r : List ℕ). 0 ∷ 0 ∷ r) (words-none p l (k + 1)) ∙ ap (λ (n : ℕ). replicate n 0) (two l)
-  where
-    two : (l : ℕ) → suc (suc (2 * l)) ≡ 2 * suc l
-    two l = omega arith
-
--- zeros, with the version and where the frames start stored in front
-pub blank-image : (l : Layout) (b : List ℕ) → start (l .slots) ≤ length b
-    → setWord (set (paste b 0 (replicate (length b) 0) (length b)) 0 (l .version)) 2 (start (l .slots)) ≡ image l (length b) []
-unfolding image header flat setWord
-blank-image l b h =
-    ap (λ (x : List ℕ). setWord (set x 0 (l .version)) 2 (start (l .slots))) whole
-    ∙ ap (λ (n : ℕ). setWord (set (replicate n 0) 0 (l .version)) 2 (start (l .slots))) (four (length b) (omega arith))
-    ∙ ap (λ (r : List ℕ). l .version ∷ 0 ∷ start (l .slots) / 256 ∷ start (l .slots) % 256 ∷ r) rest
-    ∙ ap (λ (n : ℕ). l .version ∷ 0 ∷ n / 256 ∷ n % 256 ∷ (words (l .slots) 0 (place (start (l .slots)) []) ++ replicate (length b - n) 0)) plain
-  where
-    plain : start (l .slots) ≡ start (l .slots) + 0
-    plain = omega arith
-
-    four : (n : ℕ) → 4 ≤ n → n ≡ suc (suc (suc (suc (n - 4))))
-    four n q = omega arith
-
-    rest : replicate {A = ℕ} (length b - 4) 0 ≡ words (l .slots) 0 (place (start (l .slots)) []) ++ replicate (length b - start (l .slots)) 0
-    rest =
-        ap (λ (n : ℕ). replicate n 0) split
-        ∙ sym (replicate-append-replicate (2 * l .slots) (length b - start (l .slots)) 0)
-        ∙ ap (λ (r : List ℕ). r ++ replicate (length b - start (l .slots)) 0) (sym (words-none (start (l .slots)) (l .slots) 0))
-      where
-        split : length b - 4 ≡ 2 * l .slots + (length b - start (l .slots))
-        split = omega arith
-
-    whole : take 0 b ++ take (length b) (replicate (length b) 0) ++ drop (0 + length b) b ≡ replicate (length b) 0
-    whole =
-        ap₂ (λ (x y : List ℕ). x ++ y) (take-all (length b) (replicate (length b) 0) (omega (arith, length-replicate {A = ℕ} (length b) 0)))
-        (ap (λ (n : ℕ). drop n b) zl ∙ drop-length b)
-        ∙ append-nil (replicate (length b) 0)
-      where
-        zl : 0 + length b ≡ length b
-        zl = omega arith
 
 module _ (l : Layout) (b : List ℕ) where
   pub make-short : length b < start (l .slots) → (Refused BufferSize ≡ made l b .answer) × (b ≡ made l b .bytes)

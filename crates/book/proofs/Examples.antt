@@ -22,7 +22,7 @@ use Rattle.contents.specs.Contents.{allZero, framesFrom, header, image, judge, 
 use Rattle.contents.specs.Contents.{roomOf, slotFrom, wordAt, words}
 use Rattle.forms.specs.Forms.{bothIn, inBoth, other, otherIn, single}
 use Rattle.book.specs.Plain.{askOn, frameOf, placed, putOn, removeOn, replayOn, seat, swapIn, without}
-use Rattle.book.specs.Book.{Outcome, call, made, opened, ours}
+use Rattle.book.specs.Book.{Outcome, callFor, layoutIn, made, opened, openedFor, ours}
 use Rattle.book.specs.History.{Ask, Call, Put, Remove, Replay, after, onList, turn}
 
 -- syncword 0x34
@@ -40,15 +40,14 @@ told (Refused x) = refusal (numberOf x)
 
 -- a buffer of n bytes, made, with one frame put
 abbrev run : ℕ → Outcome
-run n = after ours (Put sync) (made ours (replicate n 0xFF) .bytes)
+run n = after (Put sync) (made ours (replicate n 0xFF) .bytes)
 
 example :
     (told (run 62 .answer) ≡ refusal 8) × (told (run 65 .answer) ≡ done 0)
     × (run 65 .bytes ≡ 1 ∷ 1 ∷ 0x00 ∷ 0x41 ∷ 0 ∷ 0 ∷ 0 ∷ 0 ∷ 0 ∷ 0 ∷ 0x00 ∷ 0x3E ∷ (replicate 50 0 ++ sync))
-unfolding sync made call opened judge image header words place flat presentFrom offsetAt wordAt allZero framesFrom single inBoth bothIn putOn placed seat
-    other otherIn held slotOf slotFor decode sought answered judged known stray lacking find takes isIn lists rxBwCodes narrowOf narrowsOf tab tabFrom byteOf
-    maskOf reads part mask
-    read readTo
+unfolding sync made callFor openedFor layoutIn opened judge image header words place flat presentFrom offsetAt wordAt allZero framesFrom single inBoth
+    bothIn putOn placed seat other otherIn held slotOf slotFor decode sought answered judged known stray lacking find takes isIn lists rxBwCodes narrowOf
+    narrowsOf tab tabFrom byteOf maskOf reads part mask read readTo
 example = (refl, refl, refl)
 
 -- ---- the two forms of the receive path
@@ -74,8 +73,8 @@ story :
     × (left 72 (Put (long 4) ∷ Put freq ∷ Put short ∷ Put (long 7) ∷ []) ≡ long 7 ∷ freq ∷ [])
     × (left 71 (Put short ∷ Put freq ∷ Put (long 7) ∷ []) ≡ short ∷ freq ∷ [])
     × (told (turn (roomOf ours 71) (Put (long 7)) (short ∷ freq ∷ []) .answer) ≡ refusal 8)
-unfolding short long freq onList turn flat putOn placed swapIn seat other otherIn held slotOf slotFor decode sought answered judged known stray lacking find
-    takes isIn lists rxBwCodes narrowOf narrowsOf tab tabFrom byteOf maskOf reads part mask read readTo
+unfolding short long freq onList turn flat putOn placed swapIn seat other otherIn held slotOf slotFor decode sought answered judged known stray lacking
+    find takes isIn lists rxBwCodes narrowOf narrowsOf tab tabFrom byteOf maskOf reads part mask read readTo
 story = (refl, refl, refl, refl, refl)
 
 -- and what the radio is then sent
@@ -93,9 +92,9 @@ exact = (refl, refl, refl, refl)
 
 -- a stored book of both forms gets 16, before a put decodes; with a byte behind its end that is not 0 it gets 10
 both :
-    (told (after ours (Put []) (image ours 69 (short ∷ long 7 ∷ [])) .answer) ≡ refusal 16)
-    × (told (after ours (Put []) (image ours 69 (short ∷ long 7 ∷ []) ++ (1 ∷ [])) .answer) ≡ refusal 10)
-unfolding short long call opened judge image header words place flat presentFrom offsetAt wordAt allZero framesFrom lengthAt lengthBy slotFrom sizeOf lengths
-    single inBoth bothIn held slotOf slotFor decode sought answered judged known stray lacking find takes isIn lists rxBwCodes narrowOf narrowsOf tab tabFrom
-    byteOf maskOf reads part mask read readTo
+    (told (after (Put []) (image ours 69 (short ∷ long 7 ∷ [])) .answer) ≡ refusal 16)
+    × (told (after (Put []) (image ours 69 (short ∷ long 7 ∷ []) ++ (1 ∷ [])) .answer) ≡ refusal 10)
+unfolding short long callFor openedFor layoutIn opened judge image header words place flat presentFrom offsetAt wordAt allZero framesFrom lengthAt lengthBy
+    slotFrom sizeOf lengths single inBoth bothIn held slotOf slotFor decode sought answered judged known stray lacking find takes isIn lists rxBwCodes
+    narrowOf narrowsOf tab tabFrom byteOf maskOf reads part mask read readTo
 both = (refl, refl)

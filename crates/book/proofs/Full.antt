@@ -1,10 +1,10 @@
--- 231 bytes are needed: every setting put in its longer form fits a fresh book of 231 bytes, and in one of 230 the last put gets 8
+-- A full book's bytes are needed: every setting put in its longer form fits a fresh book of so many, and in one of a byte less the last put gets 8
 -- (`all-fit`, `one-short`).
 -- Assumes nothing.
 use mathlib.Core.Path.{ap, refl, subst, sym, _∙_, _≡_}
 use mathlib.Core.Bool.{Bool, cond, false, not, true, _&&_}
 use mathlib.Core.List.{List, [], _++_, _∷_}
-use Prim.Native.Nat.{ℕ, _-_}
+use Prim.Native.Nat.{ℕ, _+_, _<_}
 use native.Mathlib.Omega.{arith}
 use lib.Dec.{T, eqb, ltb, ltb→lt}
 use lib.ListN.{length}
@@ -20,10 +20,11 @@ use Rattle.book.specs.declared.Answer.the-variants.{Refused}
 use Rattle.decoder.specs.Decoding.{answered, decode, judged, known, lacking, sought, stray}
 use Rattle.settings.specs.Settings.{slotFor, slotOf}
 use Rattle.contents.specs.Frames.{flat, held}
+use Rattle.contents.specs.Contents.{roomOf}
 use Rattle.contents.proofs.Shape.{Sound}
-use Rattle.forms.specs.Forms.{bothIn, inBoth, single}
+use Rattle.forms.specs.Forms.{bothIn, inBoth, mostBytes, single}
 use Rattle.forms.proofs.Forms.{OneForm, both-agree, single-forms}
-use Rattle.book.specs.Book.{ours}
+use Rattle.book.specs.Book.{fullBook, ours}
 use Rattle.book.specs.History.{BytesRun, ListRun, Make, Put, after, onBytes, onList, turn}
 use Rattle.book.proofs.History.{history-ours}
 use Rattle.book.proofs.Laws.{slotsIn}
@@ -87,9 +88,9 @@ unfolding front last slotOf slotFor decode sought answered judged known stray la
     maskOf reads part mask read readTo
 slots = refl
 
-bytes : (length (flat front) ≡ 159) × (length (flat (front ++ (last ∷ []))) ≡ 169)
+bytes : (length (flat front) < mostBytes) × (length (flat (front ++ (last ∷ []))) ≡ mostBytes)
 unfolding front last flat
-bytes = (refl, refl)
+bytes = (omega arith, refl)
 
 sound : Sound (front ++ (last ∷ []))
 unfolding distinct listed
@@ -101,17 +102,17 @@ one-form = forms-slots (front ++ (last ∷ [])) (ap (λ (ss : List ℕ). inBoth 
 
 -- ---- the runs
 
-pub all-fit : (b : List ℕ) → length b ≡ 231 → onBytes (after ours) (Make ∷ puts (front ++ (last ∷ []))) b .heard ≡ done ∷ dones (front ++ (last ∷ []))
+pub all-fit : (b : List ℕ) → length b ≡ fullBook → onBytes after (Make ∷ puts (front ++ (last ∷ []))) b .heard ≡ done ∷ dones (front ++ (last ∷ []))
 unfolding onList turn
 all-fit b e =
     ap (λ (r : BytesRun). r .heard) (history-ours b (omega arith) (omega arith) (puts (front ++ (last ∷ []))))
     ∙ ap (λ (r : ListRun). done ∷ r .heard)
-    (puts-list (length b - 62) (front ++ (last ∷ [])) sound one-form (omega (arith, bytes .1)))
+    (puts-list (roomOf ours (length b)) (front ++ (last ∷ [])) sound one-form (omega (arith, bytes .1)))
 
-pub one-short : (b : List ℕ) → length b ≡ 230
-    → onBytes (after ours) (Make ∷ (puts front ++ (Put last ∷ []))) b .heard ≡ done ∷ (dones front ++ (record { answer = Refused NoRoom; output = [] } ∷ []))
+pub one-short : (b : List ℕ) → length b + 1 ≡ fullBook
+    → onBytes after (Make ∷ (puts front ++ (Put last ∷ []))) b .heard ≡ done ∷ (dones front ++ (record { answer = Refused NoRoom; output = [] } ∷ []))
 unfolding onList turn
 one-short b e =
     ap (λ (r : BytesRun). r .heard) (history-ours b (omega arith) (omega arith) (puts front ++ (Put last ∷ [])))
     ∙ ap (λ (r : ListRun). done ∷ r .heard)
-    (puts-over (length b - 62) front last sound one-form (omega (arith, bytes .0)) (omega (arith, bytes .1)))
+    (puts-over (roomOf ours (length b)) front last sound one-form (omega (arith, bytes .0)) (omega (arith, bytes .1)))

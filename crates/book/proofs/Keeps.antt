@@ -1,4 +1,4 @@
--- A refused call leaves the book and the output as they were, for every layout, call and bytes (`refused-keeps`).
+-- A refused call leaves the book and the output as they were, for every call and bytes (`refused-keeps`).
 -- Assumes nothing.
 use mathlib.Core.Path.{ap, refl, sym, _∙_, _≡_}
 use mathlib.Core.Bool.{Bool, cond, false, true}
@@ -17,9 +17,10 @@ use Rattle.contents.specs.Frames.{flat, held}
 use Rattle.contents.specs.Contents.{Contents, Layout, holds, image, longest, refused, roomOf, start}
 use Rattle.contents.proofs.Judged.{Bytes}
 use Rattle.book.specs.Plain.{Turn, askOn, become, clearOn, frameOf, placed, putOn, refuse, removeOn, replayOn, tell, without}
-use Rattle.book.specs.Book.{Outcome, call, made, onContents, opened}
+use Rattle.book.specs.Book.{Edit, Outcome, Read, Use, callFor, layoutIn, made, onContents, openedFor, ours}
 use Rattle.book.specs.History.{Ask, Call, Clear, Make, Put, Remove, Replay, after}
 use Rattle.book.proofs.Calls.{done-refused, opened-bytes}
+use Rattle.book.proofs.Versions.{openedFor-opened}
 
 -- the output that a call is lent
 abbrev pub lentTo : Call → List ℕ
@@ -87,17 +88,20 @@ module _ (o : List ℕ) (room : ℕ) (fs : List (List ℕ)) where
 -- ---- calls
 
 -- whatever the step on the list, if its refused turns keep output and list
-pub call-keeps : (l : Layout) (s : List ℕ → ℕ → List (List ℕ) → Turn) (o b : List ℕ) → Bytes b
+pub call-keeps : (u : Use) (s : List ℕ → ℕ → List (List ℕ) → Turn) (o b : List ℕ) → Bytes b
     → ((room : ℕ) (fs : List (List ℕ)) (x : Refusal) → s o room fs .answer ≡ Refused x → (s o room fs .output ≡ o) × (s o room fs .frames ≡ fs))
-    → (x : Refusal) → call l s o b .answer ≡ Refused x → (call l s o b .output ≡ o) × (call l s o b .bytes ≡ b)
-unfolding call
-call-keeps l s o b B keeps x e = go (opened l b) refl e
+    → (x : Refusal) → callFor u s o b .answer ≡ Refused x → (callFor u s o b .output ≡ o) × (callFor u s o b .bytes ≡ b)
+unfolding callFor
+call-keeps u s o b B keeps x e = go (openedFor u b) refl e
   where
-    go : (c : Contents) → opened l b ≡ c → onContents l s o b c .answer ≡ Refused x → (onContents l s o b c .output ≡ o) × (onContents l s o b c .bytes ≡ b)
+    l : Layout
+    l = layoutIn b
+
+    go : (c : Contents) → openedFor u b ≡ c → onContents l s o b c .answer ≡ Refused x → (onContents l s o b c .output ≡ o) × (onContents l s o b c .bytes ≡ b)
     go (refused y) w q = (refl, refl)
     go (holds fs) w q =
         let k = keeps (roomOf l (length b)) fs x q in
-        (k .0, ap (λ (u : List (List ℕ)). image l (length b) u) (k .1) ∙ sym (opened-bytes l b fs B w))
+        (k .0, ap (λ (u : List (List ℕ)). image l (length b) u) (k .1) ∙ sym (opened-bytes l b fs B (openedFor-opened u b fs w)))
 
 made-keeps : (l : Layout) (b : List ℕ) (x : Refusal) → made l b .answer ≡ Refused x → (made l b .output ≡ []) × (made l b .bytes ≡ b)
 unfolding made
@@ -115,11 +119,10 @@ made-keeps l b x e = go (leb (start (l .slots)) (length b)) (leb (length b) long
     go false c q = (refl, refl)
 
 -- WHAT IS REFUSED ALTERS NOTHING: whatever the bytes are, a call that is refused leaves the book and the output
-pub refused-keeps : (l : Layout) (c : Call) (b : List ℕ) → Bytes b → (x : Refusal) → after l c b .answer ≡ Refused x
-    → (after l c b .output ≡ lentTo c) × (after l c b .bytes ≡ b)
-refused-keeps l Make b B = made-keeps l b
-refused-keeps l (Put f) b B = call-keeps l (putOn f) [] b B (λ room fs. put-keeps [] room fs f)
-refused-keeps l (Remove k) b B = call-keeps l (removeOn k) [] b B (λ room fs. remove-keeps [] room fs k)
-refused-keeps l (Ask k o) b B = call-keeps l (askOn k) o b B (λ room fs. ask-keeps o room fs k)
-refused-keeps l Clear b B = call-keeps l clearOn [] b B (λ room fs. clear-keeps [] room fs)
-refused-keeps l (Replay o) b B = call-keeps l replayOn o b B (λ room fs. replay-keeps o room fs)
+pub refused-keeps : (c : Call) (b : List ℕ) → Bytes b → (x : Refusal) → after c b .answer ≡ Refused x → (after c b .output ≡ lentTo c) × (after c b .bytes ≡ b)
+refused-keeps Make b B = made-keeps ours b
+refused-keeps (Put f) b B = call-keeps Edit (putOn f) [] b B (λ room fs. put-keeps [] room fs f)
+refused-keeps (Remove k) b B = call-keeps Edit (removeOn k) [] b B (λ room fs. remove-keeps [] room fs k)
+refused-keeps (Ask k o) b B = call-keeps Read (askOn k) o b B (λ room fs. ask-keeps o room fs k)
+refused-keeps Clear b B = call-keeps Edit clearOn [] b B (λ room fs. clear-keeps [] room fs)
+refused-keeps (Replay o) b B = call-keeps Read replayOn o b B (λ room fs. replay-keeps o room fs)

@@ -11,9 +11,10 @@ use lib.Dec.{eqb}
 use lib.ListN.{getD, length}
 use Rattle.settings.specs.Settings.{sizeOf}
 use Rattle.contents.specs.Frames.{flat, held}
-use Rattle.contents.specs.Contents.{Layout, image, longest, offsetAt, roomOf, start, wordAt}
+use Rattle.contents.specs.Contents.{Layout, image, longest, offsetAt, offsetFor, roomOf, start, wordAt}
 use Rattle.contents.proofs.Shape.{count-most, place-ge, place-in, place-none, present-count}
 use Rattle.contents.proofs.Judged.{Bytes, Reads, Tiled, framesFrom-tiled, judge-image, offsets}
+use Rattle.contents.proofs.Offsets.{present-tells}
 use Rattle.book.specs.Plain.{Turn}
 use Rattle.book.specs.declared.Answer.{Answer}
 use Rattle.book.specs.Edits.{Low}
@@ -32,6 +33,10 @@ module _ (l : Layout) (b : List ℕ) (B : Bytes b) (h : Holds l b) where
 
   pub not-held : (k at : ℕ) → k < l .slots → at ≡ offsetAt b k → at ≡ 0 → held k (h .frames) ≡ false
   not-held k at a o z = sym (present-held l b (h .frames) (h .reads) k a) ∙ ap not (eq-eqb (offsetAt b k) 0 (sym o ∙ z))
+
+  -- nor is a slot that the layout has no offset for
+  pub none-held : (k at : ℕ) → at ≡ offsetFor (l .slots) b k → at ≡ 0 → held k (h .frames) ≡ false
+  none-held k at o z = sym (present-tells l b (h .frames) (h .reads) k) ∙ ap not (eq-eqb (offsetFor (l .slots) b k) 0 (sym o ∙ z))
 
   pub end-is : wordAt b 2 ≡ start (l .slots) + length (flat (h .frames))
   end-is = sym (tiling .ends)

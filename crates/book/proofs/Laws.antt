@@ -10,7 +10,7 @@
 --     setting-full, put-eight         8 exactly when the list with the frame would not fit
 --     setting-over                    an overwrite never needs room
 --     form-room, form-shorter         room is judged on the list after a swap; a swap to the shorter form always fits
---     setting-fits                    where 169 bytes have room, no setting is refused for room
+--     setting-fits                    where a full list has room, no setting is refused for room
 --     remove-nine, ask-nine           9 exactly where the very kind is not held
 --     form-nine                       and so for the form that is not held where the other one is
 --     checked-put                     what the checked builder makes of a setting is never refused but for room
@@ -35,13 +35,13 @@ use Rattle.settings.proofs.Settings.{slot-one, slotOf-length}
 use Rattle.contents.specs.Frames.{flat, held}
 use Rattle.contents.specs.Contents.{Layout, holds, image, judge}
 use Rattle.contents.proofs.Shape.{Sound, place-in}
-use Rattle.forms.specs.Forms.{other}
+use Rattle.forms.specs.Forms.{mostBytes, other}
 use Rattle.forms.proofs.Forms.{OneForm}
 use Rattle.forms.proofs.Most.{most-bytes}
 use Rattle.contents.proofs.Judged.{Bytes, judge-image}
 use Rattle.book.specs.Plain.{Turn, askOn, become, frameOf, ifHeld, placed, putOn, refuse, removeOn, replayOn, swapIn, tell, without}
-use Rattle.book.proofs.Placed.{by-place, held-after, held-cons, held-here, placed-forms, placed-over, placed-sound, placed-swap}
-use Rattle.book.proofs.Placed.{sound-middle}
+use Rattle.filling.proofs.Lists.{held-after, held-here, sound-middle}
+use Rattle.book.proofs.Placed.{by-place, held-cons, placed-forms, placed-over, placed-sound, placed-swap}
 use Rattle.book.proofs.Swapping.{swap-room}
 use Rattle.book.proofs.Putting.{over-room, putOn-fits}
 use Rattle.refusal.specs.Numbers.{numberOf}
@@ -249,8 +249,8 @@ module _ (f o : List ℕ) (room : ℕ) (fs : List (List ℕ)) (a : slotOf f < se
     pub form-shorter : sizeOf (slotOf f) ≤ sizeOf (other (slotOf f)) → length (flat fs) ≤ room → putOn f o room fs ≡ become o (placed f fs)
     form-shorter e r = putOn-fits f o room fs a (placed f fs) refl (omega (arith, form-room, place-in 0 fs (other (slotOf f)) S q))
 
-  -- and where 169 bytes of frames have room, no setting is refused for room
-  pub setting-fits : Sound fs → OneForm fs → 169 ≤ room → putOn f o room fs ≡ become o (placed f fs)
+  -- and where a full list has room, no setting is refused for room
+  pub setting-fits : Sound fs → OneForm fs → mostBytes ≤ room → putOn f o room fs ≡ become o (placed f fs)
   setting-fits S F r =
       putOn-fits f o room fs a (placed f fs) refl (omega (arith, most-bytes (placed f fs) (placed-sound f fs a S) (placed-forms f fs S F)))
 

@@ -1,4 +1,5 @@
 pub mod Calls
+pub mod Versions
 pub mod Known
 pub mod Parts
 pub mod Placed
@@ -9,9 +10,11 @@ pub mod Removing
 pub mod Telling
 pub mod Kept
 pub mod History
+pub mod Reading
 pub mod Laws
 pub mod Keeps
 pub mod Single
+pub mod Told
 pub mod Loading
 pub mod Full
 pub mod Places

@@ -2,8 +2,14 @@
 use Rattle.once.proofs.Once.{Once, same}
 use Rattle.book.proofs as book
 
-ready-once : Once book.ready.ended book.ready.Reads.Pre book.ready.Reads.Learnt
-ready-once κs a h o u p q i = (same p q i, o .1)
+slots-in-once : Once book.slots_in.ended book.slots_in.Reads.Pre book.slots_in.Reads.Learnt
+slots-in-once κs a h o u p q i = (same (p .0) (q .0) i, o .1)
+
+ready-to-read-once : Once book.ready_to_read.ended book.ready_to_read.Reads.Pre book.ready_to_read.Reads.Learnt
+ready-to-read-once κs a h o u p q i = (same p q i, o .1)
+
+ready-to-edit-once : Once book.ready_to_edit.ended book.ready_to_edit.Reads.Pre book.ready_to_edit.Reads.Learnt
+ready-to-edit-once κs a h o u p q i = (same p q i, o .1)
 
 make-once : Once book.make.ended book.make.Reads.Pre book.make.Reads.Learnt
 make-once κs a h o u p q i = (same (p .0) (q .0) i, (same (p .1) (q .1) i, o .1 .1))

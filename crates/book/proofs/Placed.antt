@@ -52,39 +52,6 @@ held-cons j g fs h = go (eqb (slotOf g) j) refl h
     go true w q = absurd (false≢true (sym q))
     go false w q = (eqb-false _ _ w, q)
 
-pub held-after : (j : ℕ) (xs ys : List (List ℕ)) → held j ys ≡ true → held j (xs ++ ys) ≡ true
-unfolding held
-held-after j [] ys h = h
-held-after j (x ∷ xs) ys h = go (held-after j xs ys h) (eqb (slotOf x) j)
-  where
-    go : held j (xs ++ ys) ≡ true → (t : Bool) → cond t true (held j (xs ++ ys)) ≡ true
-    go ih true = refl
-    go ih false = ih
-
-pub held-before : (j : ℕ) (xs ys : List (List ℕ)) → held j xs ≡ true → held j (xs ++ ys) ≡ true
-unfolding held
-held-before j [] ys h = absurd (false≢true h)
-held-before j (x ∷ xs) ys h = go (held-before j xs ys) (eqb (slotOf x) j) h
-  where
-    go : (held j xs ≡ true → held j (xs ++ ys) ≡ true) → (t : Bool) → cond t true (held j xs) ≡ true → cond t true (held j (xs ++ ys)) ≡ true
-    go ih true q = refl
-    go ih false q = ih q
-
-pub held-here : (f : List ℕ) (fs : List (List ℕ)) → held (slotOf f) (f ∷ fs) ≡ true
-unfolding held
-held-here f fs = rw (eq-eqb (slotOf f) (slotOf f) refl)
-
-pub sound-middle : (xs : List (List ℕ)) (f : List ℕ) (ys : List (List ℕ)) → Sound (xs ++ (f ∷ ys)) → (slotOf f < settings) × (held (slotOf f) xs ≡ false)
-unfolding held
-sound-middle [] f ys s = (s .0, refl)
-sound-middle (x ∷ xs) f ys s = go (sound-middle xs f ys (s .2)) (eqb (slotOf x) (slotOf f)) refl
-  where
-    go : (slotOf f < settings) × (held (slotOf f) xs ≡ false) → (t : Bool) → eqb (slotOf x) (slotOf f) ≡ t
-        → (slotOf f < settings) × (cond t true (held (slotOf f) xs) ≡ false)
-    go ih false e = ih
-    go ih true e =
-        absurd (false≢true (sym (s .1) ∙ ap (λ (j : ℕ). held j (xs ++ (f ∷ ys))) (eqb-true _ _ e) ∙ held-after (slotOf f) xs (f ∷ ys) (held-here f ys)))
-
 -- what a swap does not bring is not held after it
 held-swap-out : (k : ℕ) (f : List ℕ) (j : ℕ) → (slotOf f ≡ j → ⊥) → (fs : List (List ℕ)) → held j fs ≡ false → held j (swapIn k f fs) ≡ false
 unfolding held swapIn

@@ -24,7 +24,7 @@ use Rattle.contents.specs.Contents.{Contents, Layout, holds, image, judge, long
 use Rattle.contents.specs.Contents.{roomOf, start}
 use Rattle.forms.specs.Forms.{single}
 use Rattle.book.specs.Plain.{Turn, askOn, become, clearOn, frameOf, placed, putOn, refuse, removeOn, replayOn, tell, without}
-use Rattle.book.specs.Book.{Outcome, agreed, call, made, onContents, opened}
+use Rattle.book.specs.Book.{Edit, Outcome, Read, Use, agreed, callFor, layoutIn, made, onContents, opened, openedFor, ours, roomIn}
 use Rattle.book.specs.History.{Ask, Call, Clear, Make, Put, Remove, Replay, after}
 
 -- what is said of an answer that is a refusal
@@ -102,23 +102,23 @@ module _ (P : Refusal → Type 0) (S : Steps P) where
 
   -- ---- the calls, where it holds of the book's own refusals too
 
-  module _ (l : Layout) (b : List ℕ) (own : (x : Refusal) → opened l b ≡ refused x → P x) (size : P BufferSize) where
-    pub call-says : (s : List ℕ → ℕ → List (List ℕ) → Turn) (o : List ℕ)
-        → ((o : List ℕ) (room : ℕ) (fs : List (List ℕ)) → Says P (s o room fs .answer)) → Says P (call l s o b .answer)
-    unfolding call
-    call-says s o h = by (opened l b) own
+  module _ (b : List ℕ) (own : (u : Use) (x : Refusal) → openedFor u b ≡ refused x → P x) (size : P BufferSize) where
+    pub call-says : (u : Use) (s : List ℕ → ℕ → List (List ℕ) → Turn) (o : List ℕ)
+        → ((o : List ℕ) (room : ℕ) (fs : List (List ℕ)) → Says P (s o room fs .answer)) → Says P (callFor u s o b .answer)
+    unfolding callFor
+    call-says u s o h = by (openedFor u b) (own u)
       where
-        by : (c : Contents) → ((x : Refusal) → c ≡ refused x → P x) → Says P (onContents l s o b c .answer)
+        by : (c : Contents) → ((x : Refusal) → c ≡ refused x → P x) → Says P (onContents (layoutIn b) s o b c .answer)
         by (refused x) n = n x refl
-        by (holds fs) n = h o (roomOf l (length b)) fs
+        by (holds fs) n = h o (roomIn b) fs
 
-    pub after-says : (c : Call) → Says P (after l c b .answer)
-    after-says Make = made-says P l b size
-    after-says (Put f) = call-says (putOn f) [] (put-says f)
-    after-says (Remove k) = call-says (removeOn k) [] (remove-says k)
-    after-says (Ask k o) = call-says (askOn k) o (ask-says k)
-    after-says Clear = call-says clearOn [] clear-says
-    after-says (Replay o) = call-says replayOn o replay-says
+    pub after-says : (c : Call) → Says P (after c b .answer)
+    after-says Make = made-says P ours b size
+    after-says (Put f) = call-says Edit (putOn f) [] (put-says f)
+    after-says (Remove k) = call-says Edit (removeOn k) [] (remove-says k)
+    after-says (Ask k o) = call-says Read (askOn k) o (ask-says k)
+    after-says Clear = call-says Edit clearOn [] clear-says
+    after-says (Replay o) = call-says Read replayOn o replay-says
 
 -- ---- places
 
@@ -152,8 +152,14 @@ opened-says P both l b h x e = subst of e (by (judge l b) refl)
     by (refused y) w = h y w
     by (holds fs) w = told (single fs) fs
 
-pub opened-near : (l : Layout) (b : List ℕ) (x : Refusal) → opened l b ≡ refused x → placeOf x ≤ 12
-opened-near l b = opened-says Near (omega arith) l b (λ y w. omega (arith, judge-place l b y w))
+-- and so of every refusal that a use finds
+pub openedFor-says : (P : Refusal → Type 0) → P BothForms → (b : List ℕ) → ((y : Refusal) → judge (layoutIn b) b ≡ refused y → P y)
+    → (u : Use) (x : Refusal) → openedFor u b ≡ refused x → P x
+unfolding openedFor
+openedFor-says P both b h u = opened-says P both (layoutIn b) b h
 
-pub after-place : (l : Layout) (b : List ℕ) (c : Call) (x : Refusal) → after l c b .answer ≡ Refused x → placeOf x ≤ 12
-after-place l b c x e = subst (Says Near) e (after-says Near steps-near l b (opened-near l b) (omega arith) c)
+pub found-near : (b : List ℕ) (u : Use) (x : Refusal) → openedFor u b ≡ refused x → placeOf x ≤ 12
+found-near b = openedFor-says Near (omega arith) b (λ y w. omega (arith, judge-place (layoutIn b) b y w))
+
+pub after-place : (b : List ℕ) (c : Call) (x : Refusal) → after c b .answer ≡ Refused x → placeOf x ≤ 12
+after-place b c x e = subst (Says Near) e (after-says Near steps-near b (found-near b) (omega arith) c)

@@ -1,5 +1,5 @@
--- A put as edits of a book's bytes: a paste in place (`over-image`) or the frame behind the others (`app-image`) gives the image of the list
--- after the put, as a swap does (proofs/Swapping.antt); and what `put` returns (`put-..`).
+-- A put as edits of a book's bytes: a paste in place gives the image of the list after the put (`over-image`), as a swap does (proofs/Swapping.antt)
+-- and a frame behind the others (`append-image` of `filling`); and what `put` returns (`put-..`).
 -- Assumes nothing.
 use mathlib.Core.Path.{ap, ap₂, refl, subst, sym, _∙_, _≡_}
 use mathlib.Core.Bool.{Bool, cond, false, false≢true, true}
@@ -24,11 +24,14 @@ use Rattle.contents.specs.Contents.{Layout, header, image, offsetAt, roomOf, st
 use Rattle.contents.proofs.Shape.{Sound, place-from, place-in}
 use Rattle.contents.proofs.Judged.{Bytes, offsets}
 use Rattle.contents.proofs.Headers.{header-length, words-cong}
+use Rattle.filling.specs.Filling.{appendedTo}
+use Rattle.filling.proofs.Pieces.{paste-left, paste-right}
+use Rattle.filling.proofs.Lists.{flat-append}
+use Rattle.filling.proofs.Filling.{append-image}
 use Rattle.forms.specs.Forms.{other}
 use Rattle.book.specs.Plain.{become, placed, putOn, refuse, swapIn}
-use Rattle.book.specs.Edits.{appended, setWord, swapped}
-use Rattle.book.proofs.Known.{count-is, end-is, held-within, is-held, is-image, not-held, stay, tiling}
-use Rattle.book.proofs.Parts.{drop-replicate, length-setWord, paste-left, paste-right, setWord-left, setWord-skip, words-set}
+use Rattle.book.specs.Edits.{swapped}
+use Rattle.book.proofs.Known.{count-few, count-is, end-is, held-within, is-held, is-image, not-held, stay, tiling}
 use Rattle.book.proofs.Calls.{Gives, Holds, accept, holds-reads}
 use Rattle.book.proofs.Placed.{placed-last, placed-over, placed-swap}
 use Rattle.book.proofs.Swapping.{swap-flat, swap-length, swap-room, swapped-image}
@@ -91,120 +94,6 @@ over-image l n k f fs own len s h =
 
     same : length (flat (swapIn k f fs)) ≡ length (flat fs)
     same = over-room k f own len fs s h
-
--- ---- at the end
-
-pub flat-split : (xs ys : List (List ℕ)) → flat (xs ++ ys) ≡ flat xs ++ flat ys
-unfolding flat
-flat-split [] ys = refl
-flat-split (x ∷ xs) ys = ap (λ (r : List ℕ). x ++ r) (flat-split xs ys) ∙ sym (append-assoc x (flat xs) (flat ys))
-
-flat-append : (fs : List (List ℕ)) (f : List ℕ) → flat (fs ++ (f ∷ [])) ≡ flat fs ++ f
-unfolding flat
-flat-append fs f = flat-split fs (f ∷ []) ∙ ap (λ (r : List ℕ). flat fs ++ r) (append-nil f)
-
-pub place-append : (p : ℕ) (fs : List (List ℕ)) (f : List ℕ) → held (slotOf f) fs ≡ false → place p (fs ++ (f ∷ [])) (slotOf f) ≡ p + length (flat fs)
-unfolding place held flat
-place-append p [] f h = ap (λ (t : Bool). cond t p 0) (eq-eqb (slotOf f) (slotOf f) refl) ∙ e p
-  where
-    e : (p : ℕ) → p ≡ p + 0
-    e p = omega arith
-place-append p (g ∷ fs) f h = go (place-append (p + length g) fs f) (eqb (slotOf g) (slotOf f)) h
-  where
-    go : (held (slotOf f) fs ≡ false → place (p + length g) (fs ++ (f ∷ [])) (slotOf f) ≡ p + length g + length (flat fs)) → (t : Bool)
-        → cond t true (held (slotOf f) fs) ≡ false
-        → cond t p (place (p + length g) (fs ++ (f ∷ [])) (slotOf f)) ≡ p + length (g ++ flat fs)
-    go ih true q = absurd (false≢true (sym q))
-    go ih false q = omega (arith, ih q, length-append g (flat fs))
-
-pub place-other : (p : ℕ) (fs : List (List ℕ)) (f : List ℕ) (j : ℕ) → (slotOf f ≡ j → ⊥) → place p (fs ++ (f ∷ [])) j ≡ place p fs j
-unfolding place
-place-other p [] f j n = ap (λ (t : Bool). cond t p 0) (ne-eqb (slotOf f) j n)
-place-other p (g ∷ fs) f j n = ap (λ (x : ℕ). cond (eqb (slotOf g) j) p x) (place-other (p + length g) fs f j n)
-
-length-one : (fs : List (List ℕ)) (f : List ℕ) → length (fs ++ (f ∷ [])) ≡ length fs + 1
-length-one fs f = length-append fs (f ∷ [])
-
--- the header, with one more frame
-header-append : (l : Layout) (fs : List (List ℕ)) (f : List ℕ) → held (slotOf f) fs ≡ false → slotOf f < l .slots
-    → setWord (setWord (set (header l fs) 1 (length fs + 1)) 2 (start (l .slots) + length (flat fs) + length f)) (4 + 2 * slotOf f)
-    (start (l .slots) + length (flat fs)) ≡ header l (fs ++ (f ∷ []))
-unfolding header setWord
-header-append l fs f fresh a =
-    let c : ℕ = length fs + 1 in
-    let h : ℕ = (start (l .slots) + length (flat fs) + length f) / 256 in
-    let w : ℕ = (start (l .slots) + length (flat fs) + length f) % 256 in
-    ap (λ (i : ℕ). setWord (l .version ∷ c ∷ h ∷ w ∷ words (l .slots) 0 (place (start (l .slots)) fs)) i (start (l .slots) + length (flat fs)))
-    (four (2 * slotOf f))
-    ∙ setWord-skip (l .version) c (h ∷ w ∷ words (l .slots) 0 (place (start (l .slots)) fs)) (suc (suc (2 * slotOf f))) (start (l .slots) + length (flat fs))
-    ∙ ap (λ (r : List ℕ). l .version ∷ c ∷ r) (setWord-skip h w (words (l .slots) 0 (place (start (l .slots)) fs)) (2 * slotOf f)
-    (start (l .slots) + length (flat fs)))
-    ∙ ap₂ (λ (c : ℕ) (r : List ℕ). l .version ∷ c ∷ r) (sym (length-one fs f))
-    (ap₂ (λ (x : ℕ) (r : List ℕ). x / 256 ∷ x % 256 ∷ r) total
-    (words-set (l .slots) 0 (place (start (l .slots)) fs) (place (start (l .slots)) (fs ++ (f ∷ []))) (slotOf f) (start (l .slots) + length (flat fs)) a
-    (ap (place (start (l .slots)) (fs ++ (f ∷ []))) (z (slotOf f)) ∙ place-append (start (l .slots)) fs f fresh)
-    (λ x n. sym (place-other (start (l .slots)) fs f x (λ u. n (z (slotOf f) ∙ u))))))
-  where
-    four : (n : ℕ) → 4 + n ≡ suc (suc (suc (suc n)))
-    four n = omega arith
-
-    z : (n : ℕ) → 0 + n ≡ n
-    z n = omega arith
-
-    total : start (l .slots) + length (flat fs) + length f ≡ start (l .slots) + length (flat (fs ++ (f ∷ [])))
-    total = omega (arith, ap length (flat-append fs f), length-append (flat fs) f)
-
-pub app-image : (l : Layout) (n : ℕ) (f : List ℕ) (fs : List (List ℕ)) → held (slotOf f) fs ≡ false → slotOf f < l .slots
-    → start (l .slots) + length (flat fs) + length f ≤ n
-    → setWord (setWord (set (paste (image l n fs) (start (l .slots) + length (flat fs)) f (length f)) 1 (length fs + 1)) 2
-    (start (l .slots) + length (flat fs) + length f)) (4 + 2 * slotOf f) (start (l .slots) + length (flat fs)) ≡ image l n (fs ++ (f ∷ []))
-unfolding image
-app-image l n f fs h a room =
-    ap (λ (x : List ℕ). setWord (setWord (set x 1 (length fs + 1)) 2 e') (4 + 2 * slotOf f) e) pasted
-    ∙ ap (λ (x : List ℕ). setWord (setWord x 2 e') (4 + 2 * slotOf f) e)
-    (set-append-left (header l fs) rest 1 (length fs + 1) (omega (arith, header-length l fs)))
-    ∙ ap (λ (x : List ℕ). setWord x (4 + 2 * slotOf f) e) (setWord-left (set (header l fs) 1 (length fs + 1)) rest 2 e'
-    (simp length-set (omega (arith, header-length l fs))))
-    ∙ setWord-left (setWord (set (header l fs) 1 (length fs + 1)) 2 e') rest (4 + 2 * slotOf f) e (omega (arith, len))
-    ∙ ap₂ (λ (u v : List ℕ). u ++ v) (header-append l fs f h a) tail
-  where
-    e : ℕ
-    e = start (l .slots) + length (flat fs)
-
-    e' : ℕ
-    e' = start (l .slots) + length (flat fs) + length f
-
-    z : ℕ
-    z = n - (start (l .slots) + length (flat fs))
-
-    rest : List ℕ
-    rest = flat fs ++ (f ++ replicate (z - length f) 0)
-
-    ends : start (l .slots) + length (flat fs) ≡ length (header l fs) + (length (flat fs) + 0)
-    ends = omega (arith, header-length l fs)
-
-    len : length (setWord (set (header l fs) 1 (length fs + 1)) 2 e') ≡ start (l .slots)
-    len = length-setWord (set (header l fs) 1 (length fs + 1)) 2 e' ∙ length-set (header l fs) 1 (length fs + 1) ∙ header-length l fs
-
-    front : paste (replicate z 0) 0 f (length f) ≡ f ++ replicate (z - length f) 0
-    front = ap₂ (λ (u v : List ℕ). u ++ v) (take-length f) (ap (λ (i : ℕ). drop {A = ℕ} i (replicate z 0)) (zz (length f)) ∙ drop-replicate z (length f))
-      where
-        zz : (m : ℕ) → 0 + m ≡ m
-        zz m = omega arith
-
-    pasted : paste (header l fs ++ (flat fs ++ replicate z 0)) (start (l .slots) + length (flat fs)) f (length f) ≡ header l fs ++ rest
-    pasted =
-        ap (λ (i : ℕ). paste (header l fs ++ (flat fs ++ replicate z 0)) i f (length f)) ends
-        ∙ paste-right (header l fs) (flat fs ++ replicate z 0) (length (flat fs) + 0) f (length f)
-        ∙ ap (λ (r : List ℕ). header l fs ++ r) (paste-right (flat fs) (replicate z 0) 0 f (length f) ∙ ap (λ (r : List ℕ). flat fs ++ r) front)
-
-    left : z - length f ≡ n - (start (l .slots) + length (flat (fs ++ (f ∷ []))))
-    left = omega (arith, ap length (flat-append fs f), length-append (flat fs) f)
-
-    tail : rest ≡ flat (fs ++ (f ∷ [])) ++ replicate (n - (start (l .slots) + length (flat (fs ++ (f ∷ []))))) 0
-    tail =
-        sym (append-assoc (flat fs) f (replicate (z - length f) 0))
-        ∙ ap₂ (λ (u : List ℕ) (m : ℕ). u ++ replicate m 0) (sym (flat-append fs f)) left
 
 -- ---- what a put answers
 
@@ -289,20 +178,15 @@ module _ (l : Layout) (b : List ℕ) (B : Bytes b) (h : Holds l b) (f : List ℕ
         (putOn-full f [] (roomOf l (length b)) (h .frames) (omega (arith, N .own, N .small)) _ behind
         (omega (arith, more, N .ends, end-is l b B h, holds-reads l b h .high)))
 
-    pub put-app : (y : List ℕ) → length f ≤ length b - e → y ≡ appended b f k e → Gives l (putOn f) [] b (Done 0) [] y
-    unfolding appended
-    put-app y r p =
+    pub put-app : (y : List ℕ) → l .slots < 255 → length f ≤ length b - e → y ≡ appendedTo (l .slots) k f b → Gives l (putOn f) [] b (Done 0) [] y
+    put-app y few r p =
         accept l (putOn f) [] b h (become [] (h .frames ++ (f ∷ []))) y
         (putOn-fits f [] (roomOf l (length b)) (h .frames) (omega (arith, N .own, N .small)) _ behind (omega (arith, more, room)))
         (p
-        ∙ rw (ee, count-is l b B h, N .own) (ap (λ (x : List ℕ). setWord
-        (setWord (set (paste x (start (l .slots) + length (flat (h .frames))) f (length f)) 1 (length (h .frames) + 1)) 2
-        (start (l .slots) + length (flat (h .frames)) + length f)) (4 + 2 * slotOf f) (start (l .slots) + length (flat (h .frames)))) (is-image l b B h))
-        ∙ app-image l (length b) f (h .frames) fresh (omega (arith, N .own, N .among)) room)
+        ∙ ap₂ (λ (s : ℕ) (x : List ℕ). appendedTo (l .slots) s f x) (N .own) (is-image l b B h)
+        ∙ append-image l (length b) f (h .frames) (holds-reads l b h .big) fresh (omega (arith, N .own, N .among))
+        (omega (arith, count-is l b B h, count-few l b B h)) room)
       where
-        ee : e ≡ start (l .slots) + length (flat (h .frames))
-        ee = N .ends ∙ end-is l b B h
-
         room : start (l .slots) + length (flat (h .frames)) + length f ≤ length b
         room = omega (arith, N .ends, end-is l b B h, holds-reads l b h .high)
 

@@ -20,8 +20,11 @@ use Rattle.contents.proofs.Headers.{head, head-length, header-head}
 use Rattle.contents.proofs.Shape.{Sound, place-from, place-ge, place-in, place-none, place-shift}
 use Rattle.spans.specs.Spans.{slid, slidUp, zeroed}
 use Rattle.spans.proofs.Spans.{slid-fits, slidUp-fits, zeroed-fits}
-use Rattle.book.specs.Edits.{moved, refitted, remap, setWord, shiftedAt}
-use Rattle.book.proofs.Parts.{drop-replicate, head-end, head-remap, paste-at, paste-right}
+use Rattle.book.specs.Edits.{moved, refitted, remap, shiftedAt}
+use Rattle.spans.specs.Spans.{setWord, stored}
+use Rattle.spans.proofs.Spans.{stored-fits}
+use Rattle.filling.proofs.Pieces.{drop-replicate, paste-at, paste-right}
+use Rattle.book.proofs.Parts.{head-end, head-remap}
 
 -- ---- a move down or up
 
@@ -278,3 +281,12 @@ module _ (l : Layout) (n k new : ℕ) (fs : List (List ℕ)) (s : Sound fs) (h :
 
           i2 : E - old + new ≡ length hd + (o + (new + t))
           i2 = omega (arith, dh, tl, in-F)
+
+-- the same in the code's terms, edit after edit
+pub refitted-is : (m : ℕ) (b x y z : List ℕ) (at old new e : ℕ) → x ≡ remap (shiftedAt at old new) m b 0 → y ≡ moved x at old new e
+    → e - old + new < 65536 → 4 ≤ length y → z ≡ stored y 2 (e - old + new) → z ≡ refitted m b at old new e
+unfolding refitted
+refitted-is m b x y z at old new e p q low room r =
+    r
+    ∙ stored-fits y 2 (e - old + new) low room
+    ∙ ap (λ (l : List ℕ). setWord l 2 (e - old + new)) (q ∙ ap (λ (l : List ℕ). moved l at old new e) p)

@@ -1,6 +1,6 @@
 -- What a book's list can be, whatever the calls were: one frame for each kind (`history-single`) and one form of each setting
--- (`history-forms`); so it always opens (`history-opens`), a book of 231 bytes holds all (`history-most`, `never-full`), and
--- 195 bytes take any replay (`replay-most`).
+-- (`history-forms`); so it always opens (`history-opens`), a full book's bytes hold all (`history-most`, `never-full`), and
+-- the longest reel's take any replay (`replay-most`). `sizes` has the numbers.
 -- Assumes nothing.
 use mathlib.Core.Path.{ap, refl, sym, _∙_, _≡_}
 use mathlib.Core.Bool.{Bool, cond, false, false≢true, true}
@@ -16,19 +16,28 @@ use Rattle.table.specs.Table.{settings}
 use Rattle.settings.specs.Settings.{slotFor, slotIn, slotOf}
 use Rattle.settings.proofs.Settings.{slot-zero}
 use Rattle.contents.specs.Frames.{flat, held}
-use Rattle.contents.specs.Contents.{Layout, holds, start}
+use Rattle.contents.specs.Contents.{Layout, holds, longest, roomOf, start}
 use Rattle.contents.proofs.Shape.{Sound}
 use Rattle.reel.specs.Reel.{reelOf}
+use Rattle.forms.specs.Forms.{mostBytes, mostFrames}
 use Rattle.forms.proofs.Forms.{OneForm}
 use Rattle.forms.proofs.Most.{most-bytes, most-frames}
 use Rattle.book.specs.declared.Answer.the-variants.{Done}
 use Rattle.book.specs.Plain.{Turn, become, placed, putOn}
-use Rattle.book.specs.Book.{Outcome, opened, ours}
+use Rattle.book.specs.Book.{Outcome, Use, fullBook, longestReel, opened, openedFor, ours}
 use Rattle.book.specs.History.{BytesRun, Call, Make, Put, after, onBytes, onList, turn}
 use Rattle.book.proofs.Kept.{Kept, empty-kept, opened-kept, turns-kept}
-use Rattle.book.proofs.History.{after-image, history-ours, opened-image}
+use Rattle.book.proofs.History.{after-image, history-ours, openedFor-image}
 use Rattle.book.proofs.Laws.{setting-fits}
 use Rattle.book.proofs.Telling.{reel-length}
+
+-- ---- the numbers
+
+-- Where a made book's frames start, the most bytes that a buffer has, the most bytes and frames of a list, and with them the full book and the longest
+-- reel (REFERENCE, "Book").
+pub sizes : (ours .version ≡ 1) × (start (ours .slots) ≡ 62) × (longest ≡ 4096) × (mostBytes ≡ 169) × (mostFrames ≡ 26) × (fullBook ≡ 231)
+    × (longestReel ≡ 195)
+sizes = (refl, refl, refl, refl, refl, refl, refl)
 
 -- ---- one frame for each kind
 
@@ -86,40 +95,40 @@ module _ (n : ℕ) (cs : List Call) where
   pub history-forms : OneForm (onList (turn n) cs [] .frames)
   history-forms = kept .forms
 
-  -- nor more than 231 bytes, 62 of them its own, and 26 frames
-  pub history-most : start (ours .slots) + length (flat (onList (turn n) cs [] .frames)) ≤ 231
+  -- nor more bytes than a full book, or more frames
+  pub history-most : start (ours .slots) + length (flat (onList (turn n) cs [] .frames)) ≤ fullBook
   history-most = omega (arith, most-bytes (onList (turn n) cs [] .frames) (kept .sound) (kept .forms))
 
-  pub history-frames : length (onList (turn n) cs [] .frames) ≤ 26
+  pub history-frames : length (onList (turn n) cs [] .frames) ≤ mostFrames
   history-frames = most-frames (onList (turn n) cs [] .frames) (kept .sound) (kept .forms)
 
   -- so where they have room no setting is refused for it, in whichever order the kinds are put
-  pub history-fits : 169 ≤ n → (f o : List ℕ) → slotOf f < settings
+  pub history-fits : mostBytes ≤ n → (f o : List ℕ) → slotOf f < settings
       → putOn f o n (onList (turn n) cs [] .frames) ≡ become o (placed f (onList (turn n) cs [] .frames))
   history-fits r f o a = setting-fits f o n (onList (turn n) cs [] .frames) a (kept .sound) (kept .forms) r
 
--- a book that was made and then called in any way opens
-pub history-opens : (b : List ℕ) → 62 ≤ length b → length b ≤ 4096 → (cs : List Call)
-    → opened ours (onBytes (after ours) (Make ∷ cs) b .bytes) ≡ holds (onList (turn (length b - 62)) (Make ∷ cs) [] .frames)
-history-opens b low high cs =
-    ap (λ (r : BytesRun). opened ours (r .bytes)) (history-ours b low high cs)
-    ∙ opened-image ours (length b) low high (onList (turn (length b - 62)) (Make ∷ cs) [] .frames)
-    (turns-kept (ours .slots) (omega arith) (length b - 62) (Make ∷ cs) [] (empty-kept (ours .slots) (length b - 62)))
+-- a book that was made and then called in any way can be read and edited
+pub history-opens : (b : List ℕ) → start (ours .slots) ≤ length b → length b ≤ longest → (cs : List Call) (u : Use)
+    → openedFor u (onBytes after (Make ∷ cs) b .bytes) ≡ holds (onList (turn (roomOf ours (length b))) (Make ∷ cs) [] .frames)
+history-opens b low high cs u =
+    ap (λ (r : BytesRun). openedFor u (r .bytes)) (history-ours b low high cs)
+    ∙ openedFor-image (length b) low high (onList (turn (roomOf ours (length b))) (Make ∷ cs) [] .frames)
+    (turns-kept (ours .slots) (omega arith) (roomOf ours (length b)) (Make ∷ cs) [] (empty-kept (ours .slots) (roomOf ours (length b)))) u
 
--- A BOOK OF 231 BYTES OR MORE TAKES EVERY SETTING'S FRAME, after whatever calls
-pub never-full : (b : List ℕ) → 231 ≤ length b → length b ≤ 4096 → (cs : List Call) (f : List ℕ) → slotOf f < settings
-    → after ours (Put f) (onBytes (after ours) (Make ∷ cs) b .bytes) .answer ≡ Done 0
+-- A BUFFER WITH ROOM FOR A FULL BOOK TAKES EVERY SETTING'S FRAME, after whatever calls
+pub never-full : (b : List ℕ) → fullBook ≤ length b → length b ≤ longest → (cs : List Call) (f : List ℕ) → slotOf f < settings
+    → after (Put f) (onBytes after (Make ∷ cs) b .bytes) .answer ≡ Done 0
 unfolding turn
 never-full b low high cs f a =
-    let kept = turns-kept (ours .slots) (omega arith) (length b - 62) (Make ∷ cs) [] (empty-kept (ours .slots) (length b - 62)) in
-    ap (λ (r : BytesRun). after ours (Put f) (r .bytes) .answer) (history-ours b (omega arith) high cs)
-    ∙ ap (λ (o : Outcome). o .answer) (after-image ours (length b) (omega arith) high (Put f) (onList (turn (length b - 62)) (Make ∷ cs) [] .frames) kept)
-    ∙ ap (λ (t : Turn). t .answer) (history-fits (length b - 62) (Make ∷ cs) (omega arith) f [] a)
+    let kept = turns-kept (ours .slots) (omega arith) (roomOf ours (length b)) (Make ∷ cs) [] (empty-kept (ours .slots) (roomOf ours (length b))) in
+    ap (λ (r : BytesRun). after (Put f) (r .bytes) .answer) (history-ours b (omega arith) high cs)
+    ∙ ap (λ (o : Outcome). o .answer) (after-image (length b) (omega arith) high (Put f) (onList (turn (roomOf ours (length b))) (Make ∷ cs) [] .frames) kept)
+    ∙ ap (λ (t : Turn). t .answer) (history-fits (roomOf ours (length b)) (Make ∷ cs) (omega arith) f [] a)
 
 -- ---- the replay
 
--- NO REPLAY IS LONGER THAN 195 BYTES, whatever book it is of
-pub replay-most : (l : Layout) (b : List ℕ) (fs : List (List ℕ)) → opened l b ≡ holds fs → length (reelOf fs) ≤ 195
+-- NO REPLAY IS LONGER, whatever book it is of
+pub replay-most : (l : Layout) (b : List ℕ) (fs : List (List ℕ)) → opened l b ≡ holds fs → length (reelOf fs) ≤ longestReel
 replay-most l b fs e =
     let k = opened-kept l b fs e in
     omega (arith, reel-length fs, most-bytes fs (k .sound) (k .forms), most-frames fs (k .sound) (k .forms))

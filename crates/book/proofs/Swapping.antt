@@ -16,11 +16,12 @@ use Rattle.contents.specs.Frames.{flat, held, place}
 use Rattle.contents.specs.Contents.{Layout, image, start}
 use Rattle.contents.proofs.Headers.{head, head-length, header-head}
 use Rattle.contents.proofs.Shape.{Sound, place-from, place-ge, place-in, place-shift}
-use Rattle.spans.specs.Spans.{written}
-use Rattle.spans.proofs.Spans.{written-fits}
+use Rattle.spans.specs.Spans.{setWord, stored, written}
+use Rattle.spans.proofs.Spans.{stored-fits, written-fits}
 use Rattle.book.specs.Plain.{swapIn}
-use Rattle.book.specs.Edits.{refitted, setWord, shiftedAt, swapped}
-use Rattle.book.proofs.Parts.{head-set, paste-at, paste-right}
+use Rattle.book.specs.Edits.{refitted, shiftedAt, swapped}
+use Rattle.filling.proofs.Pieces.{paste-at, paste-right}
+use Rattle.book.proofs.Parts.{head-set}
 use Rattle.book.proofs.Placed.{held-cons}
 use Rattle.book.proofs.Refitting.{place-shifts, refit-image, shifted-kept}
 
@@ -218,7 +219,9 @@ swapped-image l n k f fs s r h a had fit =
 
 -- the edits of a swap, one after the other
 pub swapped-is : (m : ℕ) (b x y z f : List ℕ) (at old s e : ℕ) → x ≡ refitted m b at old (length f) e → at + length f ≤ length x → y ≡ written x at f
-    → z ≡ setWord y (4 + 2 * s) at → z ≡ swapped m b at old f s e
+    → at < 65536 → 4 + 2 * s + 2 ≤ length y → z ≡ stored y (4 + 2 * s) at → z ≡ swapped m b at old f s e
 unfolding swapped
-swapped-is m b x y z f at old s e p h q r =
-    r ∙ ap (λ (w : List ℕ). setWord w (4 + 2 * s) at) (q ∙ written-fits x at f h ∙ ap (λ (w : List ℕ). paste w at f (length f)) p)
+swapped-is m b x y z f at old s e p h q low room r =
+    r
+    ∙ stored-fits y (4 + 2 * s) at low room
+    ∙ ap (λ (w : List ℕ). setWord w (4 + 2 * s) at) (q ∙ written-fits x at f h ∙ ap (λ (w : List ℕ). paste w at f (length f)) p)

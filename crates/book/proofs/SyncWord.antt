@@ -2,7 +2,7 @@
 -- that no book that opens holds one (`opened-sync-word`).
 -- Assumes nothing.
 use mathlib.Core.Path.{_∙_, _≡_}
-use mathlib.Core.Bool.{false}
+use mathlib.Core.Bool.{false, true}
 use mathlib.Core.List.{List}
 use mathlib.Core.Logic.{⊎-elim}
 use Prim.Native.Nat.{ℕ, _+_, _%_, _<_, _≤_}
@@ -12,16 +12,17 @@ use lib.Seq.{getD-drop, getD-take}
 use Rattle.frame.proofs.OneField.{le-or-lt}
 use Rattle.refusal.specs.declared.Refusal.the-variants.{NotWellFormed}
 use Rattle.settings.specs.Settings.{lengths, sizeOf, slotFor, slotOf}
-use Rattle.contents.specs.Contents.{holds, offsetAt}
+use Rattle.contents.specs.Contents.{holds, longest, offsetAt, start}
 use Rattle.contents.proofs.Judged.{Bytes}
 use Rattle.contents.proofs.Loops.{getD-past}
 use Rattle.contents.proofs.Stored.{storedAt, stored-decodes, undecoded-ten}
 use Rattle.codec.proofs.SyncWord.{nbBitsIn, sync-word-most}
 use Rattle.book.specs.declared.Answer.the-variants.{Refused}
-use Rattle.book.specs.Book.{opened, ours}
+use Rattle.book.specs.Book.{Use, layoutIn, openedFor}
 use Rattle.book.specs.History.{Call, after}
 use Rattle.book.proofs.Both.{isMake, ten-first}
 use Rattle.book.proofs.Calls.{opened-judge}
+use Rattle.book.proofs.Versions.{openedFor-opened}
 use Rattle.book.proofs.Keeps.{lentTo}
 use Rattle.book.proofs.Laws.{DecodesTo, slot-decodes}
 
@@ -57,13 +58,18 @@ module _ (b : List ℕ) (B : Bytes b) (present : syncWordAt b ≡ 0 → ⊥) whe
           ⊎-elim (λ h. omega (arith, getD-past f i (omega (arith, short))))
           (λ h. omega (arith, byte-at i h, B (syncWordAt b + i))) (le-or-lt 11 i)
 
-  pub opened-sync-word : (fs : List (List ℕ)) → opened ours b ≡ holds fs → nbBitsAt b ≤ 64
-  unfolding f slotFor
-  opened-sync-word fs e = decoded-sync-word (stored-decodes ours b fs (opened-judge ours b fs e) (slotFor 20) (omega arith) present)
+  small : slotFor 20 < layoutIn b .slots
+  unfolding slotFor layoutIn
+  small = omega arith
 
-  pub long-sync-word : 62 ≤ length b → length b ≤ 4096 → 64 < nbBitsAt b
-      → (c : Call) → isMake c ≡ false → after ours c b ≡ record { answer = Refused NotWellFormed; output = lentTo c; bytes = b }
-  unfolding f slotFor
+  pub opened-sync-word : (u : Use) (fs : List (List ℕ)) → openedFor u b ≡ holds fs → nbBitsAt b ≤ 64
+  unfolding f
+  opened-sync-word u fs e =
+      decoded-sync-word (stored-decodes (layoutIn b) b fs (opened-judge (layoutIn b) b fs (openedFor-opened u b fs e)) (slotFor 20) small present)
+
+  pub long-sync-word : start (layoutIn b .slots) ≤ length b → length b ≤ longest → 64 < nbBitsAt b
+      → (c : Call) → isMake c ≡ false → after c b ≡ record { answer = Refused NotWellFormed; output = lentTo c; bytes = b }
+  unfolding f
   long-sync-word low high long c n =
-      ten-first ours b c n NotWellFormed
-      (undecoded-ten ours b low high (slotFor 20) (omega arith) present (λ e. let h = decoded-sync-word e in omega arith))
+      ten-first b c n NotWellFormed
+      (undecoded-ten (layoutIn b) b low high (slotFor 20) small present (λ e. let h = decoded-sync-word e in omega arith))

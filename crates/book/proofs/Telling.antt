@@ -20,13 +20,14 @@ use Rattle.table.specs.Table.{settings}
 use Rattle.settings.specs.Settings.{sizeOf, slotFor, slotOf}
 use Rattle.settings.proofs.Settings.{slotOf-length}
 use Rattle.contents.specs.Frames.{flat, held, place}
-use Rattle.contents.specs.Contents.{Layout, framesFrom, header, holds, image, lengthAt, offsetAt, roomOf, slotAt, start, wordAt}
+use Rattle.contents.specs.Contents.{Layout, framesFrom, header, holds, image, lengthAt, offsetAt, offsetFor, roomOf, slotAt, start, wordAt}
 use Rattle.contents.proofs.Shape.{Sound, place-from, place-in, place-shift}
 use Rattle.contents.proofs.Judged.{Bytes, Split, framesFrom-none, framesFrom-split, offsets}
+use Rattle.contents.proofs.Offsets.{offset-among, offset-slot}
 use Rattle.contents.proofs.Headers.{header-length}
 use Rattle.contents.proofs.Loops.{minus-end, minus-step, slot-fits}
 use Rattle.book.specs.Plain.{askOn, frameOf, refuse, replayOn, tell}
-use Rattle.book.proofs.Known.{count-is, end-is, is-held, is-image, not-held, stay, tiling}
+use Rattle.book.proofs.Known.{count-is, end-is, held-within, is-held, is-image, none-held, stay, tiling}
 use Rattle.book.specs.Edits.{Tiles, reelFrom}
 use Rattle.book.proofs.Calls.{Gives, Holds, holds-reads}
 
@@ -134,11 +135,21 @@ module _ (l : Layout) (b : List ℕ) (B : Bytes b) (h : Holds l b) (o : List ℕ
   pub ask-none : settings ≤ s → Gives l (askOn k) o b (Refused NotAKind) o b
   ask-none a = stay l b B h (askOn k) o (Refused NotAKind) o (askOn-none k s own o (roomOf l (length b)) (h .frames) a)
 
-  module _ (a : s < settings) (am : s < l .slots) (at : ℕ) (q : at ≡ offsetAt b s) where
+  module _ (a : s < settings) (at : ℕ) (qf : at ≡ offsetFor (l .slots) b s) where
     pub ask-absent : at ≡ 0 → Gives l (askOn k) o b (Refused NotHeld) o b
-    ask-absent z = stay l b B h (askOn k) o (Refused NotHeld) o (askOn-absent k s own o (roomOf l (length b)) (h .frames) a (not-held l b B h s at am q z))
+    ask-absent z = stay l b B h (askOn k) o (Refused NotHeld) o (askOn-absent k s own o (roomOf l (length b)) (h .frames) a (none-held l b B h s at qf z))
 
     module _ (n : at ≡ 0 → ⊥) where
+      -- a slot that has an offset is among the layout's
+      pub am : s < l .slots
+      am = offset-slot (l .slots) b s (λ z. n (qf ∙ z))
+
+      pub q : at ≡ offsetAt b s
+      q = qf ∙ offset-among (l .slots) b s am
+
+      pub ask-inside : at + sizeOf s ≤ length b
+      ask-inside = omega (arith, held-within l b B h s at am q n, holds-reads l b h .high)
+
       frame-at : take (sizeOf s) (drop at b) ≡ frameOf s (h .frames)
       frame-at =
           ap₂ (λ (i : ℕ) (y : List ℕ). take (sizeOf s) (drop i y)) (q ∙ offsets l b (h .frames) (holds-reads l b h) s am) (is-image l b B h)
@@ -251,7 +262,7 @@ module _ (l : Layout) (b : List ℕ) (B : Bytes b) (h : Holds l b) (o : List ℕ
 
 -- ---- a part of a slice, as the code lends it
 
-part-plain : (b : List ℕ) (p n : ℕ) → take (p + n - p) (drop p b) ≡ take n (drop p b)
+pub part-plain : (b : List ℕ) (p n : ℕ) → take (p + n - p) (drop p b) ≡ take n (drop p b)
 part-plain b p n = ap (λ (i : ℕ). take i (drop p b)) (c p n)
   where
     c : (x y : ℕ) → x + y - x ≡ y

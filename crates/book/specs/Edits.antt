@@ -7,15 +7,8 @@ use mathlib.Core.List.{List}
 use lib.Dec.{eqb, ltb}
 use lib.ListN.{length, take, drop, getD, set, replicate}
 use lib.Seq.{paste}
+use Rattle.spans.specs.Spans.{setWord}
 use Rattle.contents.specs.Contents.{framesFrom, holds, lengthAt, longest, offsetAt}
-
--- the number v in the two bytes at i, high byte first
-unfoldable pub setWord : List ℕ → ℕ → ℕ → List ℕ
-setWord b i v = set (set b i (v / 256)) (i + 1) (v % 256)
-
--- the frame f of the slot s behind the frames, which end at e
-unfoldable pub appended : List ℕ → List ℕ → ℕ → ℕ → List ℕ
-appended b f s e = setWord (setWord (set (paste b e f (length f)) 1 (getD b 1 0 + 1)) 2 (e + length f)) (4 + 2 * s) e
 
 -- an offset, once the old bytes at `at` are new ones: behind them it moves with what stands there, and that of their own slot is gone
 unfoldable pub shiftedAt : ℕ → ℕ → ℕ → ℕ → ℕ

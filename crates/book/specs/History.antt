@@ -1,11 +1,11 @@
 -- A list of calls, one after the other: on a book's bytes, and on the plain list.
 -- Assumes nothing.
+use mathlib.Core.Path.{_≡_}
 use Prim.Native.Nat.{ℕ}
 use mathlib.Core.List.{List, [], _∷_}
 use Rattle.book.specs.declared.Answer.{Answer}
-use Rattle.contents.specs.Contents.{Layout}
 use Rattle.book.specs.Plain.{Turn, askOn, become, clearOn, putOn, removeOn, replayOn}
-use Rattle.book.specs.Book.{Outcome, call, made}
+use Rattle.book.specs.Book.{Edit, Outcome, Read, Use, callFor, made, ours}
 
 -- ---- runs, whatever the calls are
 
@@ -51,14 +51,28 @@ pub data Call : Type 0 where
   Clear : Call
   Replay : List ℕ → Call
 
+-- what a call wants of a book; a make looks at none
+abbrev pub wants : Call → Use
+wants Make = Edit
+wants (Put f) = Edit
+wants (Remove k) = Edit
+wants (Ask k o) = Read
+wants Clear = Edit
+wants (Replay o) = Read
+
+-- calls that only read
+abbrev pub OnlyReads : List Call → Type 0
+OnlyReads [] = Unit {0}
+OnlyReads (c ∷ cs) = (wants c ≡ Read) × OnlyReads cs
+
 -- What a call makes of bytes: the contract of each function says just this.
-abbrev pub after : Layout → Call → List ℕ → Outcome
-after l Make b = made l b
-after l (Put f) b = call l (putOn f) [] b
-after l (Remove k) b = call l (removeOn k) [] b
-after l (Ask k o) b = call l (askOn k) o b
-after l Clear b = call l clearOn [] b
-after l (Replay o) b = call l replayOn o b
+abbrev pub after : Call → List ℕ → Outcome
+after Make b = made ours b
+after (Put f) b = callFor Edit (putOn f) [] b
+after (Remove k) b = callFor Edit (removeOn k) [] b
+after (Ask k o) b = callFor Read (askOn k) o b
+after Clear b = callFor Edit clearOn [] b
+after (Replay o) b = callFor Read replayOn o b
 
 -- what it makes of a list, in a room
 unfoldable pub turn : ℕ → Call → List (List ℕ) → Turn

@@ -8,10 +8,10 @@ ghost use lib.ListN.{length, getD, take, drop, set};
 ghost use lib.Seq.{paste};
 ghost use Rattle.table.specs.Table.{settings};
 ghost use Rattle.settings.specs.Settings.{slotOf};
-ghost use Rattle.contents.specs.Contents.{image, layout, longest, offsetAt, start};
-ghost use Rattle.book.specs.Plain.{declinedOf};
-ghost use Rattle.book.specs.Book.{Permits, Tells, opened, ours, verdict};
-ghost use Rattle.book.specs.Edits.{setWord, appended, shiftedAt, Low, remap, moved, refitted, swapped, takenOut, Tiles, reelFrom};
+ghost use Rattle.contents.specs.Contents.{layout, longest, offsetAt, start};
+ghost use Rattle.book.specs.Plain.{declinedOf, putOn};
+ghost use Rattle.book.specs.Book.{Edit, Permits, Read, Tells, call, openedFor, layoutIn, opened, ours, verdict};
+ghost use Rattle.book.specs.Edits.{shiftedAt, Low, remap, moved, refitted, swapped, takenOut, Tiles, reelFrom};
 ghost use Rattle.book.specs.History.{Make, Put, Remove, Ask, Clear, Replay, after};
 use contents::Verdict;
 use refusal::Refusal;
@@ -34,25 +34,53 @@ pub const START: usize = 4 + 2 * SLOTS;
 // The most bytes that a buffer has.
 const LONGEST: usize = 4096;
 
+// The most bytes and the most frames that a book's frames can be, and the longest reel that they make.
+const MOST_BYTES: usize = 169;
+
+const MOST_FRAMES: usize = 26;
+
+pub const LONGEST_REEL: usize = MOST_BYTES + MOST_FRAMES;
+
 fn byte_to_usize(x: u8) -> usize
     ensures { λ r. ⌜ (r ≡ x) × (r < 256) ⌝ }
 {
     x as usize
 }
 
-// Whether the bytes are a book that a call may use: every refusal of a whole book is given here.
-pub fn ready(book: &[u8]) -> Answer
-    ensures { λ r. ⌜ r ≡ verdict (opened ours (now (book .entry))) ⌝ }
+// The slots of the bytes' layout.
+pub fn slots_in(book: &[u8]) -> usize
+    ensures { λ r. ⌜ (r ≡ layoutIn (now (book .entry)) .slots) × (r ≤ longest) ⌝ }
 {
-    match contents::check(book, VERSION, SLOTS) {
+    SLOTS
+}
+
+// Whether the bytes are a sound book of a layout.
+fn is_sound(book: &[u8], version: u8, slots: usize) -> Answer
+    ensures { λ r. ⌜ r ≡ verdict (opened (layout version slots) (now (book .entry))) ⌝ }
+{
+    match contents::check(book, version, slots) {
         Verdict::WellFormed => {
-            if forms::both_forms(book) {
+            if forms::both_forms(book, slots) {
                 return Answer::Refused(Refusal::BothForms);
             }
             Answer::Done(0)
         }
         Verdict::Refused(why) => Answer::Refused(why),
     }
+}
+
+// Whether the bytes are a book that can be read: every refusal of a whole book is given here, or in the next.
+pub fn ready_to_read(book: &[u8]) -> Answer
+    ensures { λ r. ⌜ r ≡ verdict (openedFor Read (now (book .entry))) ⌝ }
+{
+    is_sound(book, VERSION, SLOTS)
+}
+
+// Whether they are one that can be edited.
+pub fn ready_to_edit(book: &[u8]) -> Answer
+    ensures { λ r. ⌜ r ≡ verdict (openedFor Edit (now (book .entry))) ⌝ }
+{
+    is_sound(book, VERSION, SLOTS)
 }
 
 // Why a frame is no setting, by the decoder's answer: its refusal, or that the kind is an action.
@@ -66,37 +94,6 @@ fn declined(answer: decoder::Answer) -> Answer
 }
 
 // ---- edits in place
-
-fn put_word(b: &mut [u8], i: usize, v: usize)
-    requires { ⌜ (i + 1 < length (now b)) × (v < 65536) ⌝ }
-    ensures { λ _. ⌜ now (b .exit) ≡ setWord (now (b .entry)) i v ⌝ }
-{
-    b[i] = (v / 256) as u8;
-    b[i + 1] = (v % 256) as u8;
-}
-
-// The empty book of a layout, whatever the bytes were.
-fn blank(b: &mut [u8], version: u8, slots: usize)
-    requires { ⌜ (start slots ≤ length (now b)) × (length (now b) ≤ longest) ⌝ }
-    ensures { λ _. ⌜ now (b .exit) ≡ image (layout version slots) (length (now (b .entry))) [] ⌝ }
-{
-    let n = b.len();
-    spans::zero(b, 0, n);
-    b[0] = version;
-    put_word(b, 2, 4 + 2 * slots);
-}
-
-// A frame behind the others, which end at e; its slot's offset stands before them.
-fn append(b: &mut [u8], frame: &[u8], slot: usize, e: usize)
-    requires { ⌜ (start (slot + 1) ≤ e) × (e + length (now frame) ≤ length (now b)) × (length (now b) ≤ longest) × (getD (now b) 1 0 < 255) ⌝ }
-    ensures { λ _. ⌜ now (b .exit) ≡ appended (now (b .entry)) (now (frame .entry)) slot e ⌝ }
-{
-    let c = byte_to_usize(b[1]);
-    spans::write(b, e, frame);
-    b[1] = (c + 1) as u8;
-    put_word(b, 2, e + frame.len());
-    put_word(b, 4 + 2 * slot, e);
-}
 
 // An offset, once the old bytes at `at` are new ones: 0 for the slot whose bytes they were.
 fn shifted(at: usize, old: usize, new: usize, o: usize) -> usize
@@ -119,7 +116,7 @@ fn shift_offsets(b: &mut [u8], slots: usize, at: usize, old: usize, new: usize)
     let mut s: usize = 0;
     while s < slots {
         let o = contents::offset(b, s);
-        put_word(b, 4 + 2 * s, shifted(at, old, new, o));
+        spans::put_word(b, 4 + 2 * s, shifted(at, old, new, o));
         s += 1;
     }
 }
@@ -146,7 +143,7 @@ fn refit(b: &mut [u8], slots: usize, at: usize, old: usize, new: usize, e: usize
 {
     shift_offsets(b, slots, at, old, new);
     move_rest(b, at, old, new, e);
-    put_word(b, 2, e - old + new);
+    spans::put_word(b, 2, e - old + new);
 }
 
 // The frame of len bytes at `at` goes, and what stands behind it, up to e, closes the gap.
@@ -168,7 +165,7 @@ fn swap(b: &mut [u8], slots: usize, at: usize, old: usize, frame: &[u8], slot: u
 {
     refit(b, slots, at, old, frame.len(), e);
     spans::write(b, at, frame);
-    put_word(b, 4 + 2 * slot, at);
+    spans::put_word(b, 4 + 2 * slot, at);
 }
 
 // ---- the reel
@@ -203,7 +200,7 @@ fn write_reel(b: &[u8], slots: usize, c: usize, e: usize, out: &mut [u8])
 
 // The empty book, in a buffer of any content.
 pub fn make(book: &mut [u8]) -> Answer
-    ensures { λ r. ⌜ Permits (after ours Make (now (book .entry))) r (now (book .exit)) ⌝ }
+    ensures { λ r. ⌜ Permits (after Make (now (book .entry))) r (now (book .exit)) ⌝ }
 {
     if book.len() < START {
         return Answer::Refused(Refusal::BufferSize);
@@ -211,15 +208,15 @@ pub fn make(book: &mut [u8]) -> Answer
     if book.len() > LONGEST {
         return Answer::Refused(Refusal::BufferSize);
     }
-    blank(book, VERSION, SLOTS);
+    filling::blank(book, VERSION, SLOTS);
     Answer::Done(0)
 }
 
 // A setting's frame, in the place of the one that is held in either form, or behind all others.
 pub fn put(book: &mut [u8], frame: &[u8]) -> Answer
-    ensures { λ r. ⌜ Permits (after ours (Put (now (frame .entry))) (now (book .entry))) r (now (book .exit)) ⌝ }
+    ensures { λ r. ⌜ Permits (after (Put (now (frame .entry))) (now (book .entry))) r (now (book .exit)) ⌝ }
 {
-    let found = ready(book);
+    let found = ready_to_edit(book);
     let Answer::Done(_) = found else {
         return found;
     };
@@ -238,7 +235,7 @@ pub fn put(book: &mut [u8], frame: &[u8]) -> Answer
 // A put into a sound book, of a frame that is a setting's: a slot's frames are all of one length, so an overwrite needs no room.
 fn put_setting(book: &mut [u8], frame: &[u8], slot: usize) -> Answer
     requires { ⌜ (Answer.Done 0 ≡ verdict (opened ours (now book))) × (slot ≡ slotOf (now frame)) × (slot < settings) ⌝ }
-    ensures { λ r. ⌜ Permits (after ours (Put (now (frame .entry))) (now (book .entry))) r (now (book .exit)) ⌝ }
+    ensures { λ r. ⌜ Permits (call ours (putOn (now (frame .entry))) [] (now (book .entry))) r (now (book .exit)) ⌝ }
 {
     let at = contents::offset(book, slot);
     if at != 0 {
@@ -251,7 +248,7 @@ fn put_setting(book: &mut [u8], frame: &[u8], slot: usize) -> Answer
 // A put of a form that is not held: where its other form stands, or behind all others. Room is judged on the frames after the put.
 fn put_new(book: &mut [u8], frame: &[u8], slot: usize) -> Answer
     requires { ⌜ (Answer.Done 0 ≡ verdict (opened ours (now book))) × (slot ≡ slotOf (now frame)) × (slot < settings) × (0 ≡ offsetAt (now book) slot) ⌝ }
-    ensures { λ r. ⌜ Permits (after ours (Put (now (frame .entry))) (now (book .entry))) r (now (book .exit)) ⌝ }
+    ensures { λ r. ⌜ Permits (call ours (putOn (now (frame .entry))) [] (now (book .entry))) r (now (book .exit)) ⌝ }
 {
     let e = contents::word(book, 2);
     let twin = forms::other_form(slot);
@@ -265,7 +262,7 @@ fn put_new(book: &mut [u8], frame: &[u8], slot: usize) -> Answer
         return Answer::Refused(Refusal::NoRoom);
     }
     if frame.len() <= book.len() - e {
-        append(book, frame, slot, e);
+        filling::append(book, SLOTS, slot, frame);
         return Answer::Done(0);
     }
     Answer::Refused(Refusal::NoRoom)
@@ -273,9 +270,9 @@ fn put_new(book: &mut [u8], frame: &[u8], slot: usize) -> Answer
 
 // Takes a kind's frame out, and closes the gap.
 pub fn remove(book: &mut [u8], kind: u64) -> Answer
-    ensures { λ r. ⌜ Permits (after ours (Remove kind) (now (book .entry))) r (now (book .exit)) ⌝ }
+    ensures { λ r. ⌜ Permits (after (Remove kind) (now (book .entry))) r (now (book .exit)) ⌝ }
 {
-    let found = ready(book);
+    let found = ready_to_edit(book);
     let Answer::Done(_) = found else {
         return found;
     };
@@ -295,15 +292,15 @@ pub fn remove(book: &mut [u8], kind: u64) -> Answer
 
 // Writes a kind's frame to the front of the output.
 pub fn ask(book: &[u8], kind: u64, out: &mut [u8]) -> Answer
-    ensures { λ r. ⌜ Tells (after ours (Ask kind (now (out .entry))) (now (book .entry))) r (now (out .exit)) ⌝ }
+    ensures { λ r. ⌜ Tells (after (Ask kind (now (out .entry))) (now (book .entry))) r (now (out .exit)) ⌝ }
 {
-    let found = ready(book);
+    let found = ready_to_read(book);
     let Answer::Done(_) = found else {
         return found;
     };
     let slot = slot_for(kind);
     if slot < table::SETTINGS {
-        let at = contents::offset(book, slot);
+        let at = contents::offset_for(book, slots_in(book), slot);
         if at == 0 {
             return Answer::Refused(Refusal::NotHeld);
         }
@@ -319,29 +316,30 @@ pub fn ask(book: &[u8], kind: u64, out: &mut [u8]) -> Answer
 
 // Takes every frame out.
 pub fn clear(book: &mut [u8]) -> Answer
-    ensures { λ r. ⌜ Permits (after ours Clear (now (book .entry))) r (now (book .exit)) ⌝ }
+    ensures { λ r. ⌜ Permits (after Clear (now (book .entry))) r (now (book .exit)) ⌝ }
 {
-    let found = ready(book);
+    let found = ready_to_edit(book);
     let Answer::Done(_) = found else {
         return found;
     };
-    blank(book, VERSION, SLOTS);
+    filling::blank(book, VERSION, SLOTS);
     Answer::Done(0)
 }
 
 // Writes all frames to the front of the output, each after its length, in the order of first entry.
 pub fn replay(book: &[u8], out: &mut [u8]) -> Answer
-    ensures { λ r. ⌜ Tells (after ours (Replay (now (out .entry))) (now (book .entry))) r (now (out .exit)) ⌝ }
+    ensures { λ r. ⌜ Tells (after (Replay (now (out .entry))) (now (book .entry))) r (now (out .exit)) ⌝ }
 {
-    let found = ready(book);
+    let found = ready_to_read(book);
     let Answer::Done(_) = found else {
         return found;
     };
+    let slots = slots_in(book);
     let e = contents::word(book, 2);
     let c = byte_to_usize(book[1]);
-    let total = e - START + c;
+    let total = e - (4 + 2 * slots) + c;
     if total <= out.len() {
-        write_reel(book, SLOTS, c, e, out);
+        write_reel(book, slots, c, e, out);
         return Answer::Done(total);
     }
     Answer::Refused(Refusal::OutputShort)

@@ -122,6 +122,7 @@ pub record Split (m : ℕ) (c : ℕ) (b : List ℕ) (p e : ℕ) (fs : List (List
   pub whole : fs ≡ take (lengthAt m b p e) (drop p b) ∷ rest
   pub reads : framesFrom m c b (p + lengthAt m b p e) e ≡ holds rest
   pub slot : slotOf (take (lengthAt m b p e) (drop p b)) < settings
+  pub own : slotOf (take (lengthAt m b p e) (drop p b)) ≡ slotFrom m b p 0
   pub long : length (take (lengthAt m b p e) (drop p b)) ≡ lengthAt m b p e
   pub sized : lengthAt m b p e ≡ sizeOf (slotFrom m b p 0)
   pub ends : p + lengthAt m b p e ≤ e
@@ -141,6 +142,7 @@ framesFrom-split m c b p e fs h =
       whole = r .whole;
       reads = r .reads;
       slot = small;
+      own = d;
       long = slotOf-length (take l (drop p b)) small ∙ ap (λ (x : ℕ). sizeOf x) d ∙ sym (g .long);
       sized = g .long;
       ends = omega (arith, g .within, g .long);

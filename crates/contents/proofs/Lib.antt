@@ -2,6 +2,7 @@ pub mod Shape
 pub mod Headers
 pub mod Loops
 pub mod Judged
+pub mod Offsets
 pub mod Written
 pub mod Places
 pub mod Stored

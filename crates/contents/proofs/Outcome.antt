@@ -8,6 +8,9 @@ word-once κs a h o u p q i = (same (p .0) (q .0) i, o .1)
 offset-once : Once contents.offset.ended contents.offset.Reads.Pre contents.offset.Reads.Learnt
 offset-once κs a h o u p q i = (same (p .0) (q .0) i, o .1)
 
+offset-for-once : Once contents.offset_for.ended contents.offset_for.Reads.Pre contents.offset_for.Reads.Learnt
+offset-for-once κs a h o u p q i = (same (p .0) (q .0) i, o .1)
+
 slot-at-once : Once contents.slot_at.ended contents.slot_at.Reads.Pre contents.slot_at.Reads.Learnt
 slot-at-once κs a h o u p q i = (same (p .0) (q .0) i, o .1)
 

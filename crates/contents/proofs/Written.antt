@@ -126,11 +126,11 @@ image-end l n fs = whole (start (l .slots) + length (flat fs))
     whole : (n : ℕ) → n / 256 * 256 + n % 256 ≡ n
     whole n = omega arith
 
-image-count : (l : Layout) (n : ℕ) (fs : List (List ℕ)) → getD (image l n fs) 1 0 ≡ length fs
+pub image-count : (l : Layout) (n : ℕ) (fs : List (List ℕ)) → getD (image l n fs) 1 0 ≡ length fs
 unfolding image header
 image-count l n fs = refl
 
-image-version : (l : Layout) (n : ℕ) (fs : List (List ℕ)) → getD (image l n fs) 0 0 ≡ l .version
+pub image-version : (l : Layout) (n : ℕ) (fs : List (List ℕ)) → getD (image l n fs) 0 0 ≡ l .version
 unfolding image header
 image-version l n fs = refl
 

@@ -49,6 +49,14 @@ offsetAt b s = wordAt b (4 + 2 * s)
 abbrev pub presentAt : List ℕ → ℕ → Bool
 presentAt b s = not (eqb (offsetAt b s) 0)
 
+-- the offset that a header of m slots has for a slot; 0 where it has none, since the slot is absent or not among the m
+unfoldable pub offsetFor : ℕ → List ℕ → ℕ → ℕ
+offsetFor m b s = cond (ltb s m) (offsetAt b s) 0
+
+-- whether a header of m slots has an offset for a slot
+abbrev pub presentFor : ℕ → List ℕ → ℕ → Bool
+presentFor m b s = not (eqb (offsetFor m b s) 0)
+
 -- the first of the n slots from s on whose offset is p, or s + n
 unfoldable pub slotFrom : ℕ → List ℕ → ℕ → ℕ → ℕ
 slotFrom zero b p s = s

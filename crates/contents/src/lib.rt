@@ -3,7 +3,7 @@
 ghost use mathlib.Core.Path.{_≡_};
 ghost use Prim.Native.Nat.{_+_, _*_, _<_, _≤_};
 ghost use lib.ListN.{length, getD, drop};
-ghost use Rattle.contents.specs.Contents.{allZero, framesFrom, judge, layout, lengthAt, offsetAt};
+ghost use Rattle.contents.specs.Contents.{allZero, framesFrom, judge, layout, lengthAt, offsetAt, offsetFor};
 ghost use Rattle.contents.specs.Contents.{presentFrom, slotAt, slotFrom, start, verdictOf, wordAt};
 use refusal::Refusal;
 use settings::size_of;
@@ -58,7 +58,17 @@ pub fn offset(b: &[u8], slot: usize) -> usize
     0
 }
 
-// The same where the offset lies in the buffer, for the loops over all slots.
+// The same for a header of so many slots: a slot that is not among them has none.
+pub fn offset_for(b: &[u8], slots: usize, slot: usize) -> usize
+    ensures { λ r. ⌜ (r ≡ offsetFor slots (now (b .entry)) slot) × (r < 65536) ⌝ }
+{
+    if slot < slots {
+        return offset(b, slot);
+    }
+    0
+}
+
+// The offset of a slot where it lies in the buffer, for the loops over all slots.
 fn offset_in(b: &[u8], slot: usize) -> usize
     requires { ⌜ 4 + 2 * slot + 1 < length (now b) ⌝ }
     ensures { λ r. ⌜ (r ≡ offsetAt (now (b .entry)) slot) × (r < 65536) ⌝ }

@@ -439,8 +439,8 @@ module _ (room : ℕ) where
 
 -- the bytes of the final book: those of a fresh book after these puts
 pub day-book : (b : List ℕ) → start (ours .slots) ≤ length b → length b ≤ longest → (rs : List Record)
-    → onBytes (after ours) (puts (acceptedFrom (roomOf ours (length b)) [] rs)) (made ours b .bytes) .bytes
+    → onBytes after (puts (acceptedFrom (roomOf ours (length b)) [] rs)) (made ours b .bytes) .bytes
     ≡ image ours (length b) (dayOn (roomOf ours (length b)) rs morning .frames)
 day-book b low high rs =
-    ap (λ (x : BytesRun). x .bytes) (history ours (omega arith) b low high (puts (acceptedFrom (roomOf ours (length b)) [] rs)))
+    ap (λ (x : BytesRun). x .bytes) (history b low high (puts (acceptedFrom (roomOf ours (length b)) [] rs)))
     ∙ ap (image ours (length b)) (sym (day-frames (roomOf ours (length b)) rs))

@@ -23,7 +23,7 @@ use Rattle.cmd_fsk.specs.declared.rsp.FskRxStatsRead.{FskRxStatsRead}
 use Rattle.cmd_fsk.specs.declared.rsp.FskPacketStatusRead.{FskPacketStatusRead}
 use Rattle.book.specs.declared.Answer.{Answer as Said}
 use Rattle.book.specs.declared.Answer.the-variants as said
-use Rattle.book.specs.Book.{Permits, ours}
+use Rattle.book.specs.Book.{Permits}
 use Rattle.book.specs.History.{Put, after}
 use Rattle.day.specs.declared.Day.{Day}
 use Rattle.day.specs.Days.{most, plus, kindIn, isAction, noted, refusedOne, tallied, missed, onReceived}
@@ -109,12 +109,12 @@ module _ (f b : List ℕ) (d : Day) (q : Decoded) (e : q ≡ decoded (decode f))
   Sent r x = (r ≡ sentDay f b d) × (x ≡ sentBytes f b)
 
   module _ (r : Day) (x : List ℕ) (k : ℕ) where
-    put-sent : (a : Said) → actionTold (q .answer) ≡ false → kindTold (q .answer) ≡ k → r ≡ tallied k a d → Permits (after ours (Put f) b) a x
+    put-sent : (a : Said) → actionTold (q .answer) ≡ false → kindTold (q .answer) ≡ k → r ≡ tallied k a d → Permits (after (Put f) b) a x
         → Sent r x
     unfolding sentDay sentBytes
     put-sent a t h g p = rw (g, p .0, p .1, sym action-is ∙ t, sym kind-is ∙ h) (refl, refl)
 
-    pub sent-setting : (a : Said) → q .answer ≡ Kind k → slotFor k < settings → r ≡ tallied k a d → Permits (after ours (Put f) b) a x → Sent r x
+    pub sent-setting : (a : Said) → q .answer ≡ Kind k → slotFor k < settings → r ≡ tallied k a d → Permits (after (Put f) b) a x → Sent r x
     unfolding kindTold actionTold
     sent-setting a h l = put-sent a (ap actionTold h ∙ ap not (lt-ltb (slotFor k) settings l)) (ap kindTold h)
 
@@ -126,6 +126,6 @@ module _ (f b : List ℕ) (d : Day) (q : Decoded) (e : q ≡ decoded (decode f))
         rw (g, p, t, s) (refl, refl)
 
   pub sent-refused : (r : Day) (x : List ℕ) (a : Said) (w : Refusal) → q .answer ≡ Refused w → r ≡ tallied 0 a d
-      → Permits (after ours (Put f) b) a x → Sent r x
+      → Permits (after (Put f) b) a x → Sent r x
   unfolding kindTold actionTold
   sent-refused r x a w h = put-sent r x 0 a (ap actionTold h) (ap kindTold h)

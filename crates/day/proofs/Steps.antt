@@ -8,16 +8,16 @@ use native.Mathlib.Omega.{arith}
 use Rattle.decoder.specs.Decoding.{decode}
 use Rattle.contents.specs.Contents.{image, longest, roomOf, start}
 use Rattle.book.specs.Plain.{putOn}
-use Rattle.book.specs.Book.{ours}
+use Rattle.book.specs.Book.{Edit, ours}
 use Rattle.book.specs.History.{Put, after}
 use Rattle.book.proofs.Kept.{Kept, put-kept}
-use Rattle.book.proofs.History.{call-image, shown}
+use Rattle.book.proofs.History.{for-image, shown}
 use Rattle.day.specs.Days.{isAction, kindIn, noted, tallied}
 use Rattle.day.specs.Steps.{Record, State, onSent, received, sent, sentBytes, sentDay, step, stepBytes, stepDay}
 
 module _ (m : ℕ) (low : start (ours .slots) ≤ m) (high : m ≤ longest) (s : State) (K : Kept (ours .slots) (roomOf ours m) (s .frames)) where
-  put-image : (f : List ℕ) → after ours (Put f) (image ours m (s .frames)) ≡ shown ours m low high (putOn f [] (roomOf ours m) (s .frames))
-  put-image f = call-image ours m low high (putOn f) [] (s .frames) K
+  put-image : (f : List ℕ) → after (Put f) (image ours m (s .frames)) ≡ shown ours m low high (putOn f [] (roomOf ours m) (s .frames))
+  put-image f = for-image m low high (s .frames) K Edit (putOn f) []
 
   -- the state after a command, by whether it is an action
   after-sent : List ℕ → Bool → State

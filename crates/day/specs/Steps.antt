@@ -5,7 +5,6 @@ use mathlib.Core.Bool.{cond}
 use mathlib.Core.List.{List, [], _∷_}
 use Rattle.decoder.specs.Decoding.{decode}
 use Rattle.book.specs.Plain.{putOn}
-use Rattle.book.specs.Book.{ours}
 use Rattle.book.specs.History.{Put, after}
 use Rattle.day.specs.declared.Day.{Day}
 use Rattle.day.specs.Days.{fresh, isAction, kindIn, noted, onReceived, tallied}
@@ -49,11 +48,11 @@ dayOn room (r ∷ rs) s = dayOn room rs (step room r s)
 
 -- the numbers after a command, by what the book's own put answers
 unfoldable pub sentDay : List ℕ → List ℕ → Day → Day
-sentDay f b d = cond (isAction (decode f)) (noted (kindIn (decode f)) d) (tallied (kindIn (decode f)) (after ours (Put f) b .answer) d)
+sentDay f b d = cond (isAction (decode f)) (noted (kindIn (decode f)) d) (tallied (kindIn (decode f)) (after (Put f) b .answer) d)
 
 -- and the bytes that the book then has
 unfoldable pub sentBytes : List ℕ → List ℕ → List ℕ
-sentBytes f b = cond (isAction (decode f)) b (after ours (Put f) b .bytes)
+sentBytes f b = cond (isAction (decode f)) b (after (Put f) b .bytes)
 
 -- the same of any record
 abbrev pub stepDay : Record → List ℕ → Day → Day

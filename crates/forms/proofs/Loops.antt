@@ -8,7 +8,7 @@ use native.Mathlib.Numerals.{add-one}
 use borrow.Author.Tests.{eq-eqb, ne-eqb}
 use lib.ListN.{drop, drop-of-length-le, getD, length}
 use lib.Seq.{drop-cons}
-use Rattle.contents.specs.Contents.{offsetAt, presentAt}
+use Rattle.contents.specs.Contents.{offsetFor, presentFor}
 use Rattle.forms.specs.Forms.{bothIn, longOf, otherIn, shortOf}
 
 module _ (l : List (List ℕ)) (i : ℕ) (h : i < length l) where
@@ -48,9 +48,9 @@ module _ (l : List (List ℕ)) (i : ℕ) (h : length l ≤ i) where
 
 -- ---- one pair
 
-module _ (b : List ℕ) (s t : ℕ) where
-  pub present-none : offsetAt b s ≡ 0 → false ≡ presentAt b s && presentAt b t
+module _ (m : ℕ) (b : List ℕ) (s t : ℕ) where
+  pub present-none : offsetFor m b s ≡ 0 → false ≡ presentFor m b s && presentFor m b t
   present-none e = rw (eq-eqb _ _ e)
 
-  pub present-two : (offsetAt b s ≡ 0 → ⊥) → presentAt b t ≡ presentAt b s && presentAt b t
+  pub present-two : (offsetFor m b s ≡ 0 → ⊥) → presentFor m b t ≡ presentFor m b s && presentFor m b t
   present-two n = rw (ne-eqb _ _ n)

@@ -1,4 +1,4 @@
--- How much a list with one form of each setting can hold: 169 bytes of frames (`most-bytes`), 26 frames (`most-frames`). Twice the sum over
+-- How much a list with one form of each setting can hold: so many bytes of frames (`most-bytes`), so many frames (`most-frames`). Twice the sum over
 -- the slots is the sum of a slot's share and its other form's, since the other forms are the slots in another order. And a list that holds
 -- every setting in its longest form holds that much (`full-bytes`, `full-frames`).
 -- Assumes nothing.
@@ -15,7 +15,7 @@ use Rattle.table.specs.Table.{settings}
 use Rattle.settings.specs.Settings.{lengths, sizeOf, slotFor}
 use Rattle.contents.specs.Frames.{flat, held}
 use Rattle.contents.proofs.Shape.{Sound, count-held, sound-within, sum-held, sumFrom, sumOf}
-use Rattle.forms.specs.Forms.{other, otherIn}
+use Rattle.forms.specs.Forms.{mostBytes, mostFrames, other, otherIn}
 use Rattle.forms.proofs.Forms.{OneForm, other-low, other-other}
 
 -- ---- sums
@@ -70,19 +70,19 @@ module _ (w : ℕ → ℕ) where
 
 -- ---- bytes and frames
 
-all-bytes : sumFrom settings (twice sizeOf) 0 ≡ 338
+all-bytes : sumFrom settings (twice sizeOf) 0 ≡ mostBytes + mostBytes
 unfolding sumFrom twice other otherIn slotFor sizeOf lengths
 all-bytes = refl
 
-all-frames : sumFrom settings (twice (λ j. 1)) 0 ≡ 52
+all-frames : sumFrom settings (twice (λ j. 1)) 0 ≡ mostFrames + mostFrames
 unfolding sumFrom twice other otherIn slotFor
 all-frames = refl
 
 module _ (fs : List (List ℕ)) (D : Sound fs) (S : OneForm fs) where
-  pub most-bytes : length (flat fs) ≤ 169
+  pub most-bytes : length (flat fs) ≤ mostBytes
   most-bytes = omega (arith, sum-held fs D, most sizeOf fs S, all-bytes)
 
-  pub most-frames : length fs ≤ 26
+  pub most-frames : length fs ≤ mostFrames
   most-frames = omega (arith, count-held settings fs D (sound-within settings (le-refl settings) fs D), most (λ j. 1) fs S, all-frames)
 
 -- ---- a full list
@@ -97,7 +97,7 @@ sum-cong zero k w q r h = refl
 sum-cong (suc n) k w q r h =
     ap₂ (λ (t : Bool) (m : ℕ). cond t (w k) 0 + m) (h k (le-refl k) (omega arith)) (sum-cong n (k + 1) w q r (λ j a b. h j (omega arith) (omega arith)))
 
-all-longest : (sumOf settings longest sizeOf 0 ≡ 169) × (sumOf settings longest (λ j. 1) 0 ≡ 26)
+all-longest : (sumOf settings longest sizeOf 0 ≡ mostBytes) × (sumOf settings longest (λ j. 1) 0 ≡ mostFrames)
 unfolding sumFrom other otherIn slotFor sizeOf lengths
 all-longest = (refl, refl)
 
@@ -117,10 +117,10 @@ module _ (fs : List (List ℕ)) (D : Sound fs) (S : OneForm fs) (every : (s : �
           let two : held (other s) fs ≡ true = every (other s) (other-low s a) (le-leb (sizeOf (other (other s))) (sizeOf (other s)) (omega (arith, back))) in
           absurd (omega (arith, ap sizeOf (S s w two)))
 
-  pub full-bytes : length (flat fs) ≡ 169
+  pub full-bytes : length (flat fs) ≡ mostBytes
   full-bytes = sym (sum-held fs D) ∙ sum-cong settings 0 sizeOf (λ j. held j fs) longest (λ j x y. held-longest j (omega arith)) ∙ all-longest .0
 
-  pub full-frames : length fs ≡ 26
+  pub full-frames : length fs ≡ mostFrames
   full-frames =
       sym (count-held settings fs D (sound-within settings (le-refl settings) fs D))
       ∙ sum-cong settings 0 (λ j. 1) (λ j. held j fs) longest (λ j x y. held-longest j (omega arith)) ∙ all-longest .1

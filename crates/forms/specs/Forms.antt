@@ -42,3 +42,13 @@ inBoth q = bothIn forms q
 -- No setting is held in both its forms.
 unfoldable pub single : List (List ℕ) → Bool
 single fs = not (inBoth (λ s. held s fs))
+
+-- ---- the most that a list can have which holds no setting in both its forms (REFERENCE, "Book")
+
+-- bytes of frames
+abbrev pub mostBytes : ℕ
+mostBytes = 169
+
+-- frames
+abbrev pub mostFrames : ℕ
+mostFrames = 26

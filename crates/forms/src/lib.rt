@@ -3,7 +3,7 @@
 ghost use mathlib.Core.Path.{_≡_};
 ghost use mathlib.Core.Bool.{_&&_};
 ghost use Rattle.settings.specs.Settings.{slotFor};
-ghost use Rattle.contents.specs.Contents.{presentAt};
+ghost use Rattle.contents.specs.Contents.{presentFor};
 ghost use Rattle.forms.specs.Forms.{inBoth, other};
 use settings::slot_for;
 
@@ -27,24 +27,24 @@ pub fn other_form(slot: usize) -> usize
     slot
 }
 
-// Whether a header has offsets for both kinds.
-fn both_present(book: &[u8], short: u64, long: u64) -> bool
-    ensures { λ r. ⌜ r ≡ presentAt (now (book .entry)) (slotFor short) && presentAt (now (book .entry)) (slotFor long) ⌝ }
+// Whether a header of so many slots has offsets for both kinds.
+fn both_present(book: &[u8], slots: usize, short: u64, long: u64) -> bool
+    ensures { λ r. ⌜ r ≡ presentFor slots (now (book .entry)) (slotFor short) && presentFor slots (now (book .entry)) (slotFor long) ⌝ }
 {
-    if contents::offset(book, slot_for(short)) == 0 {
+    if contents::offset_for(book, slots, slot_for(short)) == 0 {
         return false;
     }
-    contents::offset(book, slot_for(long)) != 0
+    contents::offset_for(book, slots, slot_for(long)) != 0
 }
 
-// Whether a header has offsets for both forms of a setting.
-pub fn both_forms(book: &[u8]) -> bool
-    ensures { λ r. ⌜ r ≡ inBoth (presentAt (now (book .entry))) ⌝ }
+// Whether a header of so many slots has offsets for both forms of a setting.
+pub fn both_forms(book: &[u8], slots: usize) -> bool
+    ensures { λ r. ⌜ r ≡ inBoth (presentFor slots (now (book .entry))) ⌝ }
 {
     let forms = table::forms();
     let mut i: usize = 0;
     while i < table::PAIRS {
-        if both_present(book, forms[i][0], forms[i][1]) {
+        if both_present(book, slots, forms[i][0], forms[i][1]) {
             return true;
         }
         i += 1;

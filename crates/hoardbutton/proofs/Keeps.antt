@@ -15,7 +15,6 @@ use Rattle.dump_text.specs.Whole.{dumped, filled}
 use Rattle.dump_text.proofs.Keeps.{refused-keeps as dump-keeps}
 use Rattle.book.specs.declared.Answer.{Answer}
 use Rattle.book.specs.declared.Answer.the-variants.{Done, Refused}
-use Rattle.book.specs.Book.{ours}
 use Rattle.book.specs.History.{Call, after}
 use Rattle.contents.proofs.Judged.{Bytes}
 use Rattle.book.proofs.Keeps.{lentTo, refused-keeps}
@@ -42,22 +41,22 @@ text-keeps text out = by (dumped text out) refl
     by (dump.Refused x) e q = dump-keeps text out x e
 
 -- `hb_book_make` and its like
-pub book-keeps : (c : Call) (b : List ℕ) → Bytes b → 0 < answerC (after ours c b .answer) .refusal → (after ours c b .output ≡ lentTo c) × (after ours c b .bytes ≡ b)
-book-keeps c b B = by (after ours c b .answer) refl
+pub book-keeps : (c : Call) (b : List ℕ) → Bytes b → 0 < answerC (after c b .answer) .refusal → (after c b .output ≡ lentTo c) × (after c b .bytes ≡ b)
+book-keeps c b B = by (after c b .answer) refl
   where
-    by : (a : Answer) → after ours c b .answer ≡ a → 0 < answerC a .refusal → (after ours c b .output ≡ lentTo c) × (after ours c b .bytes ≡ b)
+    by : (a : Answer) → after c b .answer ≡ a → 0 < answerC a .refusal → (after c b .output ≡ lentTo c) × (after c b .bytes ≡ b)
     by (Done n) e q = absurd (omega arith)
-    by (Refused x) e q = refused-keeps ours c b B x e
+    by (Refused x) e q = refused-keeps c b B x e
 
 -- `hb_side_put` and its like
-pub shared-keeps : (t : OwnerTable) (w : ℕ) (c : Request) (o b : List ℕ) → Bytes b → 0 < answerC (sideCall ours t w c o b .answer) .refusal
-    → (sideCall ours t w c o b .output ≡ o) × (sideCall ours t w c o b .bytes ≡ b)
-shared-keeps t w c o b B = by (sideCall ours t w c o b .answer) refl
+pub shared-keeps : (t : OwnerTable) (w : ℕ) (c : Request) (o b : List ℕ) → Bytes b → 0 < answerC (sideCall t w c o b .answer) .refusal
+    → (sideCall t w c o b .output ≡ o) × (sideCall t w c o b .bytes ≡ b)
+shared-keeps t w c o b B = by (sideCall t w c o b .answer) refl
   where
-    by : (a : Answer) → sideCall ours t w c o b .answer ≡ a → 0 < answerC a .refusal
-        → (sideCall ours t w c o b .output ≡ o) × (sideCall ours t w c o b .bytes ≡ b)
+    by : (a : Answer) → sideCall t w c o b .answer ≡ a → 0 < answerC a .refusal
+        → (sideCall t w c o b .output ≡ o) × (sideCall t w c o b .bytes ≡ b)
     by (Done n) e q = absurd (omega arith)
-    by (Refused x) e q = side-keeps ours t w c o b B x e
+    by (Refused x) e q = side-keeps t w c o b B x e
 
 -- `hb_widths_find`
 pub codes-keep : (ns out : List ℕ) → 0 < banksC (found ns (length out)) .refusal → foundIn ns out ≡ out

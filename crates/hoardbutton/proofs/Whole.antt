@@ -21,7 +21,7 @@ use Rattle.codec.proofs.Laws.{decode-kind}
 use Rattle.codec.proofs.Places.{placeIn, decode-place, Within, checked-within, plain-within}
 use Rattle.dump_text.proofs.Arguments.{decode-few}
 use Rattle.book.specs.declared.Answer.the-variants.{Refused}
-use Rattle.book.specs.Book.{opened, ours}
+use Rattle.book.specs.Book.{Read, openedFor}
 use Rattle.book.specs.History.{Call, after}
 use Rattle.book.proofs.Places.{after-place}
 use Rattle.owners.specs.Owners.{OwnerTable}
@@ -102,7 +102,7 @@ low-mode mode.Unknown = refl
 
 -- ---- frames
 
-low-small : (n : ℕ) → n ≤ 39 → low n ≡ n
+low-small : (n : ℕ) → n ≤ 255 → low n ≡ n
 low-small n h = omega arith
 
 -- what the decoder hands over
@@ -114,7 +114,7 @@ pub decoded-whole : (f : List ℕ) → WholeRead (decode f)
 decoded-whole f = by (decode f) refl (decode-place f)
   where
     by : (x : Reading) → decode f ≡ x → placeIn x ≤ 12 → WholeRead x
-    by (reading k vs) e h = (low-small k (decode-kind f k vs e .1), low-small (length vs) (omega (arith, decode-few f k vs e)))
+    by (reading k vs) e h = (low-small k (omega (arith, decode-kind f k vs e .1)), low-small (length vs) (omega (arith, decode-few f k vs e)))
     by (refuses x) e h = low-small (placeOf x) (omega arith)
 
 -- what a builder hands over
@@ -135,12 +135,12 @@ plain-whole k vs = built-whole (plainBy k vs) (plain-within k vs)
 -- ---- the book
 
 -- of every call: what an answer's place is, it is for C
-pub book-whole : (c : Call) (b : List ℕ) (x : Refusal) → after ours c b .answer ≡ Refused x → low (placeOf x) ≡ placeOf x
-book-whole c b x e = low-small (placeOf x) (omega (arith, after-place ours b c x e))
+pub book-whole : (c : Call) (b : List ℕ) (x : Refusal) → after c b .answer ≡ Refused x → low (placeOf x) ≡ placeOf x
+book-whole c b x e = low-small (placeOf x) (omega (arith, after-place b c x e))
 
 -- so of a side's
-pub side-whole : (t : OwnerTable) (w : ℕ) (c : Request) (o b : List ℕ) (x : Refusal) → sideCall ours t w c o b .answer ≡ Refused x → low (placeOf x) ≡ placeOf x
-side-whole t w c o b x e = low-small (placeOf x) (omega (arith, side-place ours b t w c o x e))
+pub side-whole : (t : OwnerTable) (w : ℕ) (c : Request) (o b : List ℕ) (x : Refusal) → sideCall t w c o b .answer ≡ Refused x → low (placeOf x) ≡ placeOf x
+side-whole t w c o b x e = low-small (placeOf x) (omega (arith, side-place b t w c o x e))
 
 -- ---- banks
 
@@ -164,7 +164,7 @@ profile-yes b = by (answerFor b) refl
   where
     by : (a : locker.Answer) → answerFor b ≡ a → profileC a .refusal ≡ 0 → profileC a .value ≡ 0 → a ≡ profile.Yes
     by profile.Yes e z w = refl
-    by (profile.Broken n) e z w = absurd (omega (arith, broken-bounds (opened ours b) n e .0))
+    by (profile.Broken n) e z w = absurd (omega (arith, broken-bounds (openedFor Read b) n e .0))
     by (profile.Refused x) e z w = absurd (omega (arith, number-bounds x .0))
 
 -- and else the rule is one of the seven
@@ -173,7 +173,7 @@ profile-rule b = by (answerFor b) refl
   where
     by : (a : locker.Answer) → answerFor b ≡ a → profileC a .value ≤ 7
     by profile.Yes e = omega arith
-    by (profile.Broken n) e = broken-bounds (opened ours b) n e .1
+    by (profile.Broken n) e = broken-bounds (openedFor Read b) n e .1
     by (profile.Refused x) e = omega arith
 
 -- ---- the widths stand in the order of their codes

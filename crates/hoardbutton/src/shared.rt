@@ -1,7 +1,6 @@
 // The settings book of two sides: each call is lent the owner table, and told both quotas and who calls.
 ghost use mathlib.Core.List.{[]};
 ghost use Rattle.owners.specs.Owners.{ownerTable};
-ghost use Rattle.book.specs.Book.{ours};
 ghost use Rattle.sides.specs.Calls.{Request};
 ghost use Rattle.sides.specs.Histories.{afterEvent, by};
 ghost use Rattle.hoardbutton.specs.Books.{Leaves, Writes};
@@ -17,7 +16,7 @@ pub extern "C" fn hb_side_put(
     caller: u64,
     frame: &[u8],
 ) -> HbAnswer
-    ensures { λ r. ⌜ Leaves (afterEvent ours (ownerTable (now (owners .entry)) quota1 quota2) (by caller (Request.Put (now (frame .entry))) []) (now (book .entry)))
+    ensures { λ r. ⌜ Leaves (afterEvent (ownerTable (now (owners .entry)) quota1 quota2) (by caller (Request.Put (now (frame .entry))) []) (now (book .entry)))
         r (now (book .exit)) ⌝ }
 {
     answered(sides::put(book, owners, quota1, quota2, caller, frame))
@@ -32,7 +31,7 @@ pub extern "C" fn hb_side_remove(
     caller: u64,
     kind: u64,
 ) -> HbAnswer
-    ensures { λ r. ⌜ Leaves (afterEvent ours (ownerTable (now (owners .entry)) quota1 quota2) (by caller (Request.Remove kind) []) (now (book .entry)))
+    ensures { λ r. ⌜ Leaves (afterEvent (ownerTable (now (owners .entry)) quota1 quota2) (by caller (Request.Remove kind) []) (now (book .entry)))
         r (now (book .exit)) ⌝ }
 {
     answered(sides::remove(book, owners, quota1, quota2, caller, kind))
@@ -48,7 +47,7 @@ pub extern "C" fn hb_side_ask(
     kind: u64,
     out: &mut [u8],
 ) -> HbAnswer
-    ensures { λ r. ⌜ Writes (afterEvent ours (ownerTable (now (owners .entry)) quota1 quota2) (by caller (Request.Ask kind) (now (out .entry))) (now (book .entry)))
+    ensures { λ r. ⌜ Writes (afterEvent (ownerTable (now (owners .entry)) quota1 quota2) (by caller (Request.Ask kind) (now (out .entry))) (now (book .entry)))
         r (now (out .exit)) ⌝ }
 {
     answered(sides::ask(book, owners, quota1, quota2, caller, kind, out))
@@ -62,7 +61,7 @@ pub extern "C" fn hb_side_clear(
     quota2: u64,
     caller: u64,
 ) -> HbAnswer
-    ensures { λ r. ⌜ Leaves (afterEvent ours (ownerTable (now (owners .entry)) quota1 quota2) (by caller Request.Clear []) (now (book .entry)))
+    ensures { λ r. ⌜ Leaves (afterEvent (ownerTable (now (owners .entry)) quota1 quota2) (by caller Request.Clear []) (now (book .entry)))
         r (now (book .exit)) ⌝ }
 {
     answered(sides::clear(book, owners, quota1, quota2, caller))
@@ -77,7 +76,7 @@ pub extern "C" fn hb_side_replay(
     caller: u64,
     out: &mut [u8],
 ) -> HbAnswer
-    ensures { λ r. ⌜ Writes (afterEvent ours (ownerTable (now (owners .entry)) quota1 quota2) (by caller Request.Replay (now (out .entry))) (now (book .entry)))
+    ensures { λ r. ⌜ Writes (afterEvent (ownerTable (now (owners .entry)) quota1 quota2) (by caller Request.Replay (now (out .entry))) (now (book .entry)))
         r (now (out .exit)) ⌝ }
 {
     answered(sides::replay(book, owners, quota1, quota2, caller, out))

@@ -16,10 +16,10 @@ use Rattle.table.specs.Table.{settings}
 use Rattle.settings.specs.Settings.{sizeOf, slotFor}
 use Rattle.settings.proofs.Settings.{size-high, slotOf-length}
 use Rattle.contents.specs.Frames.{held}
-use Rattle.contents.specs.Contents.{Contents, holds, refused, roomOf}
+use Rattle.contents.specs.Contents.{Contents, holds, refused}
 use Rattle.book.specs.declared.Answer.the-variants as book
 use Rattle.book.specs.Plain.{Turn, askOn, frameOf, refuse, tell}
-use Rattle.book.specs.Book.{call, onContents, opened, ours}
+use Rattle.book.specs.Book.{Read, callFor, layoutIn, onContents, openedFor, roomIn}
 use Rattle.book.specs.History.{Ask, after}
 use Rattle.book.proofs.Calls.{done-refused}
 use Rattle.book.proofs.Laws.{frame-slot}
@@ -70,22 +70,22 @@ module _ (k : ℕ) (a : slotFor k < settings) (o : List ℕ) (n : length o ≡ 1
       by false h = refl
 
   module _ (b : List ℕ) where
-    pub ask-most : (m : ℕ) → book.Done m ≡ after ours (Ask k o) b .answer → m ≤ 12
-    unfolding call
-    ask-most m e = by (opened ours b) e
+    pub ask-most : (m : ℕ) → book.Done m ≡ after (Ask k o) b .answer → m ≤ 12
+    unfolding callFor
+    ask-most m e = by (openedFor Read b) e
       where
         told : (fs : List (List ℕ)) (t : Bool) → held (slotFor k) fs ≡ t → book.Done m ≡ picked fs t .answer → m ≤ 12
         told fs true h e = let l : m ≡ length (frameFor k fs) = cc in omega (arith, frame-short (slotFor k) fs a h)
         told fs false h e = absurd (done-refused m NotHeld e)
 
-        by : (c : Contents) → book.Done m ≡ onContents ours (askOn k) o b c .answer → m ≤ 12
+        by : (c : Contents) → book.Done m ≡ onContents (layoutIn b) (askOn k) o b c .answer → m ≤ 12
         by (refused x) e = absurd (done-refused m x e)
-        by (holds fs) e = told fs (held (slotFor k) fs) refl (rw (ask-list (roomOf ours (length b)) fs) at e)
+        by (holds fs) e = told fs (held (slotFor k) fs) refl (rw (ask-list (roomIn b) fs) at e)
 
-    pub ask-held : (m : ℕ) (out : List ℕ) → book.Done m ≡ after ours (Ask k o) b .answer → out ≡ after ours (Ask k o) b .output
-        → given m (decode (take m out)) ≡ askedOf k (opened ours b)
-    unfolding call
-    ask-held m out e f = by (opened ours b) e f
+    pub ask-held : (m : ℕ) (out : List ℕ) → book.Done m ≡ after (Ask k o) b .answer → out ≡ after (Ask k o) b .output
+        → given m (decode (take m out)) ≡ askedOf k (openedFor Read b)
+    unfolding callFor
+    ask-held m out e f = by (openedFor Read b) e f
       where
         told : (fs : List (List ℕ)) (t : Bool) → book.Done m ≡ picked fs t .answer → out ≡ picked fs t .output
             → given m (decode (take m out)) ≡ cond t (given (length (frameFor k fs)) (decode (frameFor k fs))) (withheld SettingMissing)
@@ -97,26 +97,26 @@ module _ (k : ℕ) (a : slotFor k < settings) (o : List ℕ) (n : length o ≡ 1
             ∙ ap (λ (i : ℕ). given i (decode x)) l
         told fs false e f = absurd (done-refused m NotHeld e)
 
-        by : (c : Contents) → book.Done m ≡ onContents ours (askOn k) o b c .answer → out ≡ onContents ours (askOn k) o b c .output
+        by : (c : Contents) → book.Done m ≡ onContents (layoutIn b) (askOn k) o b c .answer → out ≡ onContents (layoutIn b) (askOn k) o b c .output
             → given m (decode (take m out)) ≡ askedOf k c
         by (refused x) e f = absurd (done-refused m x e)
         by (holds fs) e f =
-            told fs (held (slotFor k) fs) (rw (ask-list (roomOf ours (length b)) fs) at e) (rw (ask-list (roomOf ours (length b)) fs) at f)
+            told fs (held (slotFor k) fs) (rw (ask-list (roomIn b) fs) at e) (rw (ask-list (roomIn b) fs) at f)
 
-    pub ask-missing : (x : Refusal) → book.Refused x ≡ after ours (Ask k o) b .answer → withheld (missingFor x) ≡ askedOf k (opened ours b)
-    unfolding call
-    ask-missing x e = by (opened ours b) refl e
+    pub ask-missing : (x : Refusal) → book.Refused x ≡ after (Ask k o) b .answer → withheld (missingFor x) ≡ askedOf k (openedFor Read b)
+    unfolding callFor
+    ask-missing x e = by (openedFor Read b) refl e
       where
         told : (fs : List (List ℕ)) (t : Bool) → book.Refused x ≡ picked fs t .answer
             → withheld (missingFor x) ≡ cond t (given (length (frameFor k fs)) (decode (frameFor k fs))) (withheld SettingMissing)
         told fs true e = absurd (done-refused (length (frameFor k fs)) x (sym e))
         told fs false e = let same : x ≡ NotHeld = cc in ap (λ (z : Refusal). withheld (missingFor z)) same
 
-        by : (c : Contents) → opened ours b ≡ c → book.Refused x ≡ onContents ours (askOn k) o b c .answer → withheld (missingFor x) ≡ askedOf k c
+        by : (c : Contents) → openedFor Read b ≡ c → book.Refused x ≡ onContents (layoutIn b) (askOn k) o b c .answer → withheld (missingFor x) ≡ askedOf k c
         by (refused y) w e =
             let same : x ≡ y = cc in
             ap (λ (z : Refusal). withheld (missingFor z)) same ∙ rw (ne-eqb (numberOf y) 9 (own-not y (opened-own b y w) .0))
-        by (holds fs) w e = told fs (held (slotFor k) fs) (rw (ask-list (roomOf ours (length b)) fs) at e)
+        by (holds fs) w e = told fs (held (slotFor k) fs) (rw (ask-list (roomIn b) fs) at e)
 
 -- ---- the three settings
 

@@ -12,8 +12,8 @@ use Rattle.refusal.specs.declared.Refusal.the-variants.{SettingMissing}
 use Rattle.refusal.specs.Numbers.{numberOf, placeOf}
 use Rattle.contents.specs.Contents.{Contents, holds, refused}
 use Rattle.contents.proofs.Places.{judge-own, judge-place}
-use Rattle.book.specs.Book.{opened, ours}
-use Rattle.book.proofs.Places.{opened-says}
+use Rattle.book.specs.Book.{Read, layoutIn, openedFor}
+use Rattle.book.proofs.Places.{openedFor-says}
 use Rattle.locker_profile.specs.declared.Answer.{Answer}
 use Rattle.locker_profile.specs.declared.Answer.the-variants.{Broken, Refused, Yes}
 use Rattle.locker_profile.specs.declared.Lora.{Lora}
@@ -56,8 +56,9 @@ broken-bounds c n e = subst (Says Rule Any (λ i l m. (l, m)) tt) e (profiled-sa
 abbrev pub Own : Refusal → Type 0
 Own x = ((10 ≤ numberOf x) × (numberOf x ≤ 11)) ⊎ (numberOf x ≡ 16)
 
-pub opened-own : (b : List ℕ) (x : Refusal) → opened ours b ≡ refused x → Own x
-opened-own b = opened-says Own (inr refl) ours b (λ y w. inl (judge-own ours b y w))
+pub opened-own : (b : List ℕ) (x : Refusal) → openedFor Read b ≡ refused x → Own x
+opened-own b =
+    openedFor-says Own (inr refl) b (λ y w. inl (judge-own (layoutIn b) b y w)) Read
 
 -- so neither 9 nor 22 is a book's own
 pub own-not : (x : Refusal) → Own x → (numberOf x ≡ 9 → ⊥) × (numberOf x ≡ 22 → ⊥)
@@ -68,9 +69,10 @@ own-not x (inr h) = ((λ e. absurd (omega arith)), λ e. absurd (omega arith))
 pub refused-only : (b : List ℕ) (x : Refusal) → answerFor b ≡ Refused x → Own x ⊎ (x ≡ SettingMissing)
 refused-only b x e =
     subst (Says Any (λ y. Own y ⊎ (y ≡ SettingMissing)) (λ i l m. tt) (inr refl)) e
-    (profiled-says Any (λ y. Own y ⊎ (y ≡ SettingMissing)) (λ i l m. tt) (inr refl) (opened ours b) (λ y w. inl (opened-own b y w)))
+    (profiled-says Any (λ y. Own y ⊎ (y ≡ SettingMissing)) (λ i l m. tt) (inr refl) (openedFor Read b) (λ y w. inl (opened-own b y w)))
 
 pub profiled-place : (b : List ℕ) (x : Refusal) → answerFor b ≡ Refused x → placeOf x ≡ 0
 profiled-place b x e =
     subst (Says Any (λ y. placeOf y ≡ 0) (λ i l m. tt) refl) e
-    (profiled-says Any (λ y. placeOf y ≡ 0) (λ i l m. tt) refl (opened ours b) (opened-says (λ y. placeOf y ≡ 0) refl ours b (judge-place ours b)))
+    (profiled-says Any (λ y. placeOf y ≡ 0) (λ i l m. tt) refl (openedFor Read b)
+    (openedFor-says (λ y. placeOf y ≡ 0) refl b (judge-place (layoutIn b) b) Read))

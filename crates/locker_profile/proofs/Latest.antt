@@ -10,7 +10,7 @@ use mathlib.Core.Path.{ap, refl, sym, _∙_, _≡_}
 use mathlib.Core.Bool.{Bool, cond, false, false≢true, true, _&&_, _||_}
 use mathlib.Core.List.{List, [], _++_, _∷_}
 use mathlib.Core.Logic.{inl, inr, _⊎_}
-use Prim.Native.Nat.{ℕ, _-_, _<_, _≤_}
+use Prim.Native.Nat.{ℕ, _<_, _≤_}
 use native.Mathlib.Nat.{le-refl}
 use native.Mathlib.Omega.{arith}
 use borrow.Author.Tests.{eq-eqb, eqb-false, eqb-true, ltb-true}
@@ -28,12 +28,13 @@ use Rattle.forms.proofs.Forms.{other-other}
 use Rattle.book.specs.declared.Answer.{Answer}
 use Rattle.book.specs.declared.Answer.the-variants as book
 use Rattle.book.specs.Plain.{Turn, askOn, become, clearOn, frameOf, placed, putOn, refuse, removeOn, replayOn, tell, without}
-use Rattle.book.specs.Book.{ours}
 use Rattle.book.specs.History.{Ask, BytesRun, Call, Clear, Heard, Make, Put, Remove, Replay, after, onBytes, onList, turn}
 use Rattle.book.proofs.Kept.{Kept, empty-kept, tell-frames, turn-kept}
 use Rattle.book.proofs.Laws.{frame-slot, placed-newest, placed-others, without-gone, without-others}
 use Rattle.book.proofs.Placed.{placed-gone}
 use Rattle.book.proofs.History.{history-ours}
+use Rattle.contents.specs.Contents.{longest, roomOf, start}
+use Rattle.book.specs.Book.{Read, ours}
 use Rattle.book.proofs.Single.{history-opens}
 use Rattle.locker_profile.specs.declared.Answer.the-variants.{Refused, Yes}
 use Rattle.locker_profile.specs.Rules.{rules}
@@ -202,11 +203,11 @@ module _ (s : ℕ) where
       by (inr r) = refused-leaves s c (h .answer) x r
 
   latest-append : (cs ds : List Call) (b : List ℕ) (x : Latest)
-      → latestAfter s (cs ++ ds) (onBytes (after ours) (cs ++ ds) b .heard) x
-      ≡ latestAfter s ds (onBytes (after ours) ds (onBytes (after ours) cs b .bytes) .heard) (latestAfter s cs (onBytes (after ours) cs b .heard) x)
+      → latestAfter s (cs ++ ds) (onBytes after (cs ++ ds) b .heard) x
+      ≡ latestAfter s ds (onBytes after ds (onBytes after cs b .bytes) .heard) (latestAfter s cs (onBytes after cs b .heard) x)
   unfolding latestAfter onBytes
   latest-append [] ds b x = refl
-  latest-append (c ∷ cs) ds b x = latest-append cs ds (after ours c b .bytes) (heardTo s c (after ours c b .answer) x)
+  latest-append (c ∷ cs) ds b x = latest-append cs ds (after c b .bytes) (heardTo s c (after c b .answer) x)
 
 -- a put of a setting without a second form is about its own slot alone; kinds 1, 2 and 4 are such
 pub about-own : (s : ℕ) → other s ≡ s → (f : List ℕ) → isAbout s (Put f) ≡ eqb (slotOf f) s
@@ -223,28 +224,28 @@ no-second-form = (refl, (refl, refl))
 
 -- ---- from calls
 
-module _ (b : List ℕ) (low : 62 ≤ length b) (high : length b ≤ 4096) (cs : List Call) where
+module _ (b : List ℕ) (low : start (ours .slots) ≤ length b) (high : length b ≤ longest) (cs : List Call) where
   -- a buffer that is made, and then called in any way
   abbrev pub called : BytesRun
-  called = onBytes (after ours) (Make ∷ cs) b
+  called = onBytes after (Make ∷ cs) b
 
   -- a kind's latest accepted frame, by the calls and what was heard of them
   abbrev pub last : ℕ → Latest
   last k = latestAfter (slotFor k) (Make ∷ cs) (called .heard) none
 
   abbrev frames : List (List ℕ)
-  frames = onList (turn (length b - 62)) (Make ∷ cs) [] .frames
+  frames = onList (turn (roomOf ours (length b))) (Make ∷ cs) [] .frames
 
   pub latest-bytes : (k : ℕ) → last k ≡ asLatest (frameFor k frames)
   unfolding frameOf
   latest-bytes k =
       ap (λ (r : BytesRun). latestAfter (slotFor k) (Make ∷ cs) (r .heard) none) (history-ours b low high cs)
-      ∙ latest-list (length b - 62) (slotFor k) (Make ∷ cs) [] (empty-kept settings (length b - 62))
+      ∙ latest-list (roomOf ours (length b)) (slotFor k) (Make ∷ cs) [] (empty-kept settings (roomOf ours (length b)))
 
   -- THE ANSWER IS THAT OF THE LATEST ACCEPTED FRAMES of kinds 1, 2 and 4, whatever else was called
   pub calls-answer : answerFor (called .bytes) ≡ answeredBy (last 1) (last 2) (last 4)
   calls-answer =
-      ap profiled (history-opens b low high cs) ∙ profile-latest frames
+      ap profiled (history-opens b low high cs Read) ∙ profile-latest frames
       ∙ sym (rw (latest-bytes 1, latest-bytes 2, latest-bytes 4))
 
   -- and so a yes where all three are there and keep the rules
@@ -258,13 +259,13 @@ module _ (b : List ℕ) (low : 62 ≤ length b) (high : length b ≤ 4096) (cs :
     pub behind : List Call
     pub calls : Make ∷ cs ≡ before ++ (Put f ∷ behind)
     pub own : slotOf f ≡ slotFor k
-    pub accepted : after ours (Put f) (onBytes (after ours) before b .bytes) .answer ≡ book.Done 0
-    pub since : Leaves (slotFor k) behind (onBytes (after ours) behind (after ours (Put f) (onBytes (after ours) before b .bytes) .bytes) .heard)
+    pub accepted : after (Put f) (onBytes after before b .bytes) .answer ≡ book.Done 0
+    pub since : Leaves (slotFor k) behind (onBytes after behind (after (Put f) (onBytes after before b .bytes) .bytes) .heard)
 
   since-last : (k : ℕ) (f : List ℕ) → Since k f → last k ≡ latest f
   unfolding latestAfter onBytes
   since-last k f p =
-      ap (λ (ds : List Call). latestAfter (slotFor k) ds (onBytes (after ours) ds b .heard) none) (p .calls)
+      ap (λ (ds : List Call). latestAfter (slotFor k) ds (onBytes after ds b .heard) none) (p .calls)
       ∙ latest-append (slotFor k) (p .before) (Put f ∷ p .behind) b none
       ∙ latest-stays (slotFor k) (p .behind) _ _ (p .since)
       ∙ rw (p .accepted, eq-eqb (slotOf f) (slotFor k) (p .own))

@@ -29,7 +29,7 @@ use Rattle.codec.proofs.Laws.{decode-checked}
 use Rattle.table.specs.Table.{settings}
 use Rattle.book.specs.declared.Answer as asked
 use Rattle.book.specs.declared.Answer.the-variants as book
-use Rattle.book.specs.Book.{opened, ours}
+use Rattle.book.specs.Book.{Read, openedFor}
 use Rattle.book.specs.History.{Ask, Heard, after}
 use Rattle.locker_profile.specs.declared.Answer.{Answer}
 use Rattle.locker_profile.specs.declared.Answer.the-variants.{Broken, Refused, Yes}
@@ -63,28 +63,28 @@ refused-broken x n e = let t : 2 + numberOf x ≡ 1 = ap tag e in omega arith
 -- a book that no call may use
 pub record Closed (b : List ℕ) : Type 0 where
   pub why : Refusal
-  pub opens : opened ours b ≡ refused why
+  pub opens : openedFor Read b ≡ refused why
 
 -- one that does not hold all of kinds 1, 2 and 4
 pub record Lacking (b : List ℕ) : Type 0 where
   pub frames : List (List ℕ)
-  pub opens : opened ours b ≡ holds frames
+  pub opens : openedFor Read b ≡ holds frames
   pub one : holdsAll frames ≡ false
 
 -- one that does
 pub record Whole (b : List ℕ) : Type 0 where
   pub frames : List (List ℕ)
-  pub opens : opened ours b ≡ holds frames
+  pub opens : openedFor Read b ≡ holds frames
   pub all : holdsAll frames ≡ true
 
 pub by-book : (b : List ℕ) → Closed b ⊎ (Lacking b ⊎ Whole b)
-by-book b = by (opened ours b) refl
+by-book b = by (openedFor Read b) refl
   where
-    sorted : (fs : List (List ℕ)) → opened ours b ≡ holds fs → (t : Bool) → holdsAll fs ≡ t → Closed b ⊎ (Lacking b ⊎ Whole b)
+    sorted : (fs : List (List ℕ)) → openedFor Read b ≡ holds fs → (t : Bool) → holdsAll fs ≡ t → Closed b ⊎ (Lacking b ⊎ Whole b)
     sorted fs e true h = inr (inr (record { frames = fs; opens = e; all = h }))
     sorted fs e false h = inr (inl (record { frames = fs; opens = e; one = h }))
 
-    by : (c : Contents) → opened ours b ≡ c → Closed b ⊎ (Lacking b ⊎ Whole b)
+    by : (c : Contents) → openedFor Read b ≡ c → Closed b ⊎ (Lacking b ⊎ Whole b)
     by (refused x) e = inl (record { why = x; opens = e })
     by (holds fs) e = sorted fs e (holdsAll fs) refl
 
@@ -181,7 +181,7 @@ unfolding profileOf
 others-change-nothing fs gs a b c = rw (a .there, b .there, c .there, a .same, b .same, c .same)
 
 -- so two books that hold such lists get one answer
-pub books-agree : (b c : List ℕ) (fs gs : List (List ℕ)) → opened ours b ≡ holds fs → opened ours c ≡ holds gs → Agree fs gs 1 → Agree fs gs 2 → Agree fs gs 4
+pub books-agree : (b c : List ℕ) (fs gs : List (List ℕ)) → openedFor Read b ≡ holds fs → openedFor Read c ≡ holds gs → Agree fs gs 1 → Agree fs gs 2 → Agree fs gs 4
     → answerFor b ≡ answerFor c
 books-agree b c fs gs e f i j k = ap profiled e ∙ others-change-nothing fs gs i j k ∙ sym (ap profiled f)
 
@@ -219,7 +219,7 @@ profiled-decided c = first (askedOf 1 c .answer) refl
 
 -- what is heard of an ask
 abbrev heardOf : List ℕ → ℕ → List ℕ → Heard
-heardOf b k o = record { answer = after ours (Ask k o) b .answer; output = after ours (Ask k o) b .output }
+heardOf b k o = record { answer = after (Ask k o) b .answer; output = after (Ask k o) b .output }
 
 -- the setting that it tells of
 abbrev toldBy : asked.Answer → List ℕ → Setting
@@ -229,18 +229,21 @@ toldBy (book.Refused x) out = withheld (missingFor x)
 abbrev told : Heard → Setting
 told h = toldBy (h .answer) (h .output)
 
-heard-setting : (k : ℕ) → slotFor k < settings → (o : List ℕ) → length o ≡ 12 → (b : List ℕ) → told (heardOf b k o) ≡ askedOf k (opened ours b)
-heard-setting k a o n b = by (after ours (Ask k o) b .answer) refl
+heard-setting : (k : ℕ) → slotFor k < settings → (o : List ℕ) → length o ≡ 12 → (b : List ℕ) → told (heardOf b k o) ≡ askedOf k (openedFor Read b)
+heard-setting k a o n b = by (after (Ask k o) b .answer) refl
   where
-    by : (r : asked.Answer) → after ours (Ask k o) b .answer ≡ r → toldBy r (after ours (Ask k o) b .output) ≡ askedOf k (opened ours b)
-    by (book.Done m) e = ask-held k a o n b m (after ours (Ask k o) b .output) (sym e) refl
+    by : (r : asked.Answer) → after (Ask k o) b .answer ≡ r → toldBy r (after (Ask k o) b .output) ≡ askedOf k (openedFor Read b)
+    by (book.Done m) e = ask-held k a o n b m (after (Ask k o) b .output) (sym e) refl
     by (book.Refused x) e = ask-missing k a o n b x (sym e)
 
 -- TWO BOOKS THAT ANSWER THE THREE ASKS ALIKE GET ONE ANSWER, whatever else they hold, and refused ones too
 pub asks-decide : (b c o : List ℕ) → length o ≡ 12 → ((k : ℕ) → (k ≡ 1) ⊎ ((k ≡ 2) ⊎ (k ≡ 4)) → heardOf b k o ≡ heardOf c k o) → answerFor b ≡ answerFor c
-asks-decide b c o n e = sym (profiled-decided (opened ours b)) ∙ rw (same 1 (slots-low .0) (inl refl), same 2 (slots-low .1 .0) (inr (inl refl)), same 4 (slots-low .1 .1) (inr (inr refl))) (profiled-decided (opened ours c))
+asks-decide b c o n e =
+    sym (profiled-decided (openedFor Read b))
+    ∙ rw (same 1 (slots-low .0) (inl refl), same 2 (slots-low .1 .0) (inr (inl refl)), same 4 (slots-low .1 .1) (inr (inr refl)))
+    (profiled-decided (openedFor Read c))
   where
-    same : (k : ℕ) → slotFor k < settings → (k ≡ 1) ⊎ ((k ≡ 2) ⊎ (k ≡ 4)) → askedOf k (opened ours b) ≡ askedOf k (opened ours c)
+    same : (k : ℕ) → slotFor k < settings → (k ≡ 1) ⊎ ((k ≡ 2) ⊎ (k ≡ 4)) → askedOf k (openedFor Read b) ≡ askedOf k (openedFor Read c)
     same k a w = sym (heard-setting k a o n b) ∙ ap told (e k w) ∙ heard-setting k a o n c
 
 -- ---- which arguments count

@@ -10,7 +10,7 @@ use Rattle.settings.specs.Settings.{slotFor}
 use Rattle.contents.specs.Frames.{held}
 use Rattle.contents.specs.Contents.{Contents, holds, refused}
 use Rattle.book.specs.Plain.{frameOf}
-use Rattle.book.specs.Book.{opened, ours}
+use Rattle.book.specs.Book.{Read, openedFor}
 use Rattle.locker_profile.specs.declared.Answer.{Answer}
 use Rattle.locker_profile.specs.declared.Answer.the-variants.{Broken, Refused, Yes}
 use Rattle.locker_profile.specs.declared.Lora.{Lora}
@@ -75,4 +75,4 @@ profiled (holds fs) = profileOf fs
 
 -- The answer for the bytes of a book.
 abbrev pub answerFor : List ℕ → Answer
-answerFor b = profiled (opened ours b)
+answerFor b = profiled (openedFor Read b)

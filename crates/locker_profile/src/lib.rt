@@ -6,7 +6,7 @@ ghost use Prim.Native.Nat.{_≤_, _<_};
 ghost use Rattle.table.specs.Table.{settings};
 ghost use Rattle.settings.specs.Settings.{slotFor};
 ghost use Rattle.cmd_lora.specs.Methods.{over};
-ghost use Rattle.book.specs.Book.{opened, ours};
+ghost use Rattle.book.specs.Book.{openedFor, Read};
 ghost use Rattle.locker_profile.specs.Rules.{dueFor, firstBroken, isLong, rate, rules, spreadingFactor, width, widthOf};
 ghost use Rattle.locker_profile.specs.Profile.{answered, answerFor, loraFrom};
 ghost use Rattle.locker_profile.specs.Steps.{askedOf, missingFor};
@@ -56,7 +56,7 @@ fn missing(why: Refusal) -> Refusal
 // No frame is longer than 12 bytes: an ask is refused by the book itself, or because it holds no frame of the kind.
 fn asked(book: &[u8], kind: u64) -> Setting
     requires { ⌜ slotFor kind < settings ⌝ }
-    ensures { λ r. ⌜ r ≡ askedOf kind (opened ours (now (book .entry))) ⌝ }
+    ensures { λ r. ⌜ r ≡ askedOf kind (openedFor Read (now (book .entry))) ⌝ }
 {
     let mut frame = [0u8; 12];
     let answer = book::ask(book, kind, &mut frame);

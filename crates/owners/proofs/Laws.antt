@@ -1,39 +1,40 @@
 -- A right table, taken apart (`table-right`): each slot has one owner, 1 or 2 (`second-owner`), the two forms of a setting have the same
--- (`owns-other`), and the quotas fit the room together.
+-- (`owns-other`), a slot that no setting has is side 1's (`spare-means`, `means-spare`), and the quotas fit the room together.
 -- Assumes nothing.
 use mathlib.Core.Path.{ap, refl, sym, _∙_, _≡_}
 use mathlib.Core.Bool.{Bool, cond, false, not, true, _&&_}
 use mathlib.Core.List.{List, [], _∷_}
-use Prim.Native.Nat.{suc, zero, ℕ, _+_, _<_, _≤_}
+use Prim.Native.Nat.{suc, zero, ℕ, _+_, _-_, _<_, _≤_}
 use native.Mathlib.Omega.{arith}
-use borrow.Author.Tests.{eqb-true, leb-true, ne-eqb}
+use borrow.Author.Tests.{eq-eqb, eqb-true, leb-true, ne-eqb}
 use lib.Dec.{eqb, leb}
-use lib.ListN.{length}
-use Rattle.table.specs.Table.{forms}
+use lib.ListN.{drop, length, length-drop}
+use lib.Seq.{getD-drop}
+use Rattle.table.specs.Table.{forms, settings}
 use Rattle.settings.proofs.Settings.{both}
 use Rattle.forms.specs.Forms.{longOf, other, otherIn, shortOf}
-use Rattle.owners.specs.Owners.{OwnerTable, eachSide, isSide, joined, joinedIn, ownerOf, owns, tableRight}
+use Rattle.owners.specs.Owners.{OwnerTable, allFirst, eachSide, isSide, joined, joinedIn, ownerOf, owns, spareFirst, tableRight}
 
 -- ---- what a right table says
 
 pub record Right (m room : ℕ) (t : OwnerTable) : Type 0 where
   pub entries : length (t .owners) ≡ m
   pub sides : eachSide (t .owners) ≡ true
+  pub spare : spareFirst (t .owners) ≡ true
   pub whole : joined (t .owners) ≡ true
   pub sum : t .quota1 + t .quota2 ≤ room
 
 pub table-right : (m room : ℕ) (t : OwnerTable) → tableRight m room t ≡ true → Right m room t
 unfolding tableRight
-table-right m room t e = record { entries = eqb-true _ _ (a .0); sides = b .0; whole = c .0; sum = leb-true _ _ (c .1) }
+table-right m room t e =
+    let a = both (eqb (length (t .owners)) m) (eachSide (t .owners) && (spareFirst (t .owners) && (joined (t .owners) && fits))) e in
+    let b = both (eachSide (t .owners)) (spareFirst (t .owners) && (joined (t .owners) && fits)) (a .1) in
+    let c = both (spareFirst (t .owners)) (joined (t .owners) && fits) (b .1) in
+    let d = both (joined (t .owners)) fits (c .1) in
+    record { entries = eqb-true _ _ (a .0); sides = b .0; spare = c .0; whole = d .0; sum = leb-true _ _ (d .1) }
   where
-    a : (eqb (length (t .owners)) m ≡ true) × (eachSide (t .owners) && (joined (t .owners) && leb (t .quota1 + t .quota2) room) ≡ true)
-    a = both (eqb (length (t .owners)) m) (eachSide (t .owners) && (joined (t .owners) && leb (t .quota1 + t .quota2) room)) e
-
-    b : (eachSide (t .owners) ≡ true) × (joined (t .owners) && leb (t .quota1 + t .quota2) room ≡ true)
-    b = both (eachSide (t .owners)) (joined (t .owners) && leb (t .quota1 + t .quota2) room) (a .1)
-
-    c : (joined (t .owners) ≡ true) × (leb (t .quota1 + t .quota2) room ≡ true)
-    c = both (joined (t .owners)) (leb (t .quota1 + t .quota2) room) (b .1)
+    fits : Bool
+    fits = leb (t .quota1 + t .quota2) room
 
 -- ---- two forms, one owner
 
@@ -76,3 +77,34 @@ second-owner ws e s a = go (eqb (ownerOf ws s) 1) refl (entry-side ws e s a)
     go : (x : Bool) → eqb (ownerOf ws s) 1 ≡ x → cond x true (eqb (ownerOf ws s) 2) ≡ true → not x ≡ eqb (ownerOf ws s) 2
     go true q h = let one : ownerOf ws s ≡ 1 = eqb-true (ownerOf ws s) 1 q in sym (ne-eqb (ownerOf ws s) 2 (λ z. absurd (omega arith)))
     go false q h = sym h
+
+-- ---- the slots that no setting has
+
+all-first : (ws : List ℕ) → allFirst ws ≡ true → (s : ℕ) → s < length ws → ownerOf ws s ≡ 1
+unfolding allFirst
+all-first [] e s a = absurd (omega arith)
+all-first (w ∷ ws) e zero a = eqb-true w 1 (both (eqb w 1) (allFirst ws) e .0)
+all-first (w ∷ ws) e (suc s) a = all-first ws (both (eqb w 1) (allFirst ws) e .1) s (omega arith)
+
+first-all : (ws : List ℕ) → ((s : ℕ) → s < length ws → ownerOf ws s ≡ 1) → allFirst ws ≡ true
+unfolding allFirst
+first-all [] h = refl
+first-all (w ∷ ws) h = rw (eq-eqb w 1 (h zero (omega arith))) (first-all ws (λ s a. h (suc s) (omega arith)))
+
+-- Such a slot is side 1's: just that is asked, and nothing of the others.
+module _ (ws : List ℕ) where
+  pub spare-means : spareFirst ws ≡ true → (s : ℕ) → settings ≤ s → s < length ws → ownerOf ws s ≡ 1
+  unfolding spareFirst
+  spare-means e s a b =
+      let on : settings + (s - settings) ≡ s = omega arith in
+      ap (ownerOf ws) (sym on)
+      ∙ sym (getD-drop settings ws (s - settings) 0)
+      ∙ all-first (drop settings ws) e (s - settings) (omega (arith, length-drop settings ws))
+
+  pub means-spare : ((s : ℕ) → settings ≤ s → s < length ws → ownerOf ws s ≡ 1) → spareFirst ws ≡ true
+  unfolding spareFirst
+  means-spare h = first-all (drop settings ws) (λ s a. getD-drop settings ws s 0 ∙ h (settings + s) (omega arith) (omega (arith, length-drop settings ws)))
+
+  -- a table with no more entries than there are settings has none
+  pub spare-none : length ws ≤ settings → spareFirst ws ≡ true
+  spare-none h = means-spare (λ s a b. absurd (omega arith))

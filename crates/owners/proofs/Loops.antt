@@ -11,7 +11,7 @@ use lib.Dec.{eqb, leb}
 use lib.ListN.{drop, drop-of-length-le, getD, length}
 use lib.Seq.{drop-cons}
 use Rattle.forms.specs.Forms.{longOf, shortOf}
-use Rattle.owners.specs.Owners.{eachSide, isSide, joined, joinedIn, ownerOf, ownerTable, tableRight}
+use Rattle.owners.specs.Owners.{allFirst, eachSide, isSide, joined, joinedIn, ownerOf, ownerTable, spareFirst, tableRight}
 
 -- ---- entries
 
@@ -50,6 +50,21 @@ pub joined-end : (ws : List ℕ) (ps : List (List ℕ)) (i : ℕ) → length ps 
 unfolding joinedIn
 joined-end ws ps i h = rw (drop-of-length-le ps h)
 
+-- ---- slots that no setting has
+
+module _ (ws : List ℕ) (i : ℕ) (h : i < length ws) where
+  pub spare-pass : getD ws i 0 ≡ 1 → allFirst (drop i ws) ≡ allFirst (drop (i + 1) ws)
+  unfolding allFirst
+  spare-pass e = rw (entry ws i h, eq-eqb _ _ e)
+
+  pub spare-stop : (getD ws i 0 ≡ 1 → ⊥) → allFirst (drop i ws) ≡ false
+  unfolding allFirst
+  spare-stop n = rw (entry ws i h, ne-eqb _ _ n)
+
+pub spare-end : (ws : List ℕ) (i : ℕ) → length ws ≤ i → allFirst (drop i ws) ≡ true
+unfolding allFirst
+spare-end ws i h = rw (drop-of-length-le ws h)
+
 -- ---- the whole
 
 module _ (ws : List ℕ) (m room a b : ℕ) where
@@ -62,20 +77,25 @@ module _ (ws : List ℕ) (m room a b : ℕ) where
     unfolding tableRight
     right-owners q = rw (eq-eqb (length ws) m e, q)
 
-    pub right-split : eachSide ws ≡ true → joined ws ≡ false → tableRight m room (ownerTable ws a b) ≡ false
+    pub right-spare : eachSide ws ≡ true → spareFirst ws ≡ false → tableRight m room (ownerTable ws a b) ≡ false
     unfolding tableRight
-    right-split q r = rw (eq-eqb (length ws) m e, q, r)
+    right-spare q f = rw (eq-eqb (length ws) m e, q, f)
 
-    right-sum : eachSide ws ≡ true → joined ws ≡ true → tableRight m room (ownerTable ws a b) ≡ leb (a + b) room
-    unfolding tableRight
-    right-sum q r = rw (eq-eqb (length ws) m e, q, r)
+    module _ (f : spareFirst ws ≡ true) where
+      pub right-split : eachSide ws ≡ true → joined ws ≡ false → tableRight m room (ownerTable ws a b) ≡ false
+      unfolding tableRight
+      right-split q r = rw (eq-eqb (length ws) m e, q, f, r)
 
-    pub right-over : eachSide ws ≡ true → joined ws ≡ true → room < a → tableRight m room (ownerTable ws a b) ≡ false
-    right-over q r h = right-sum q r ∙ lt-leb (a + b) room (omega arith)
+      right-sum : eachSide ws ≡ true → joined ws ≡ true → tableRight m room (ownerTable ws a b) ≡ leb (a + b) room
+      unfolding tableRight
+      right-sum q r = rw (eq-eqb (length ws) m e, q, f, r)
 
-    pub right-rest : eachSide ws ≡ true → joined ws ≡ true → a ≤ room → leb b (room - a) ≡ tableRight m room (ownerTable ws a b)
-    right-rest q r h = go (leb b (room - a)) refl ∙ sym (right-sum q r)
-      where
-        go : (x : Bool) → leb b (room - a) ≡ x → x ≡ leb (a + b) room
-        go true p = sym (le-leb (a + b) room (omega (arith, leb-true b (room - a) p)))
-        go false p = sym (lt-leb (a + b) room (omega (arith, leb-false b (room - a) p)))
+      pub right-over : eachSide ws ≡ true → joined ws ≡ true → room < a → tableRight m room (ownerTable ws a b) ≡ false
+      right-over q r h = right-sum q r ∙ lt-leb (a + b) room (omega arith)
+
+      pub right-rest : eachSide ws ≡ true → joined ws ≡ true → a ≤ room → leb b (room - a) ≡ tableRight m room (ownerTable ws a b)
+      right-rest q r h = go (leb b (room - a)) refl ∙ sym (right-sum q r)
+        where
+          go : (x : Bool) → leb b (room - a) ≡ x → x ≡ leb (a + b) room
+          go true p = sym (le-leb (a + b) room (omega (arith, leb-true b (room - a) p)))
+          go false p = sym (lt-leb (a + b) room (omega (arith, leb-false b (room - a) p)))

@@ -5,8 +5,8 @@ use Prim.Native.Nat.{ℕ, _+_}
 use mathlib.Core.Bool.{Bool, true, cond, _&&_}
 use mathlib.Core.List.{List, [], _∷_}
 use lib.Dec.{eqb, leb}
-use lib.ListN.{length, getD}
-use Rattle.table.specs.Table.{forms}
+use lib.ListN.{drop, length, getD}
+use Rattle.table.specs.Table.{forms, settings}
 use Rattle.forms.specs.Forms.{longOf, shortOf}
 
 -- an owner for each slot, and a quota for each side, in bytes of frames
@@ -41,6 +41,15 @@ unfoldable pub eachSide : List ℕ → Bool
 eachSide [] = true
 eachSide (w ∷ ws) = isSide w && eachSide ws
 
+-- every entry is side 1's
+unfoldable pub allFirst : List ℕ → Bool
+allFirst [] = true
+allFirst (w ∷ ws) = eqb w 1 && allFirst ws
+
+-- The slots that no setting has are side 1's.
+unfoldable pub spareFirst : List ℕ → Bool
+spareFirst ws = allFirst (drop settings ws)
+
 -- the two forms of each pair have one owner
 unfoldable pub joinedIn : List (List ℕ) → List ℕ → Bool
 joinedIn [] ws = true
@@ -50,7 +59,9 @@ joinedIn (p ∷ ps) ws = eqb (ownerOf ws (shortOf p)) (ownerOf ws (longOf p)) &&
 unfoldable pub joined : List ℕ → Bool
 joined ws = joinedIn forms ws
 
--- What a table must be beside a book of m slots with room for so many bytes of frames: an entry for each slot and no more, each of them a side,
--- no setting split, and quotas that fit the room together.
+-- What a table must be beside a book of m slots with room for so many bytes of frames: an entry for each slot and no more, each of them a side, and
+-- side 1 where no setting has the slot, no setting split, and quotas that fit the room together.
 unfoldable pub tableRight : ℕ → ℕ → OwnerTable → Bool
-tableRight m room t = eqb (length (t .owners)) m && (eachSide (t .owners) && (joined (t .owners) && leb (t .quota1 + t .quota2) room))
+tableRight m room t =
+    eqb (length (t .owners)) m
+    && (eachSide (t .owners) && (spareFirst (t .owners) && (joined (t .owners) && leb (t .quota1 + t .quota2) room)))

@@ -5,7 +5,7 @@ ghost use mathlib.Core.Bool.{not};
 ghost use mathlib.Core.List.{[]};
 ghost use lib.Dec.{eqb};
 ghost use Rattle.settings.specs.Settings.{slotFor};
-ghost use Rattle.owners.specs.Owners.{eachSide, isSide, joined, ownerOf, ownerTable, quotaOf, tableRight};
+ghost use Rattle.owners.specs.Owners.{eachSide, isSide, joined, ownerOf, ownerTable, quotaOf, spareFirst, tableRight};
 use settings::slot_for;
 
 fn byte_to_u64(x: u8) -> u64
@@ -59,6 +59,20 @@ fn each_side(owners: &[u8]) -> bool
     true
 }
 
+// Whether every entry is side 1's whose slot no setting has.
+fn spare_first(owners: &[u8]) -> bool
+    ensures { λ r. ⌜ r ≡ spareFirst (now (owners .entry)) ⌝ }
+{
+    let mut i: usize = table::SETTINGS;
+    while i < owners.len() {
+        if owners[i] != 1 {
+            return false;
+        }
+        i += 1;
+    }
+    true
+}
+
 // Whether two kinds have different owners.
 fn is_split(owners: &[u8], short: u64, long: u64) -> bool
     ensures { λ r. ⌜ r ≡ not (eqb (ownerOf (now (owners .entry)) (slotFor short)) (ownerOf (now (owners .entry)) (slotFor long))) ⌝ }
@@ -90,9 +104,12 @@ pub fn is_right(owners: &[u8], slots: usize, room: u64, quota1: u64, quota2: u64
         return false;
     }
     if each_side(owners) {
-        if is_joined(owners) {
-            if quota1 <= room {
-                return quota2 <= room - quota1;
+        if spare_first(owners) {
+            if is_joined(owners) {
+                if quota1 <= room {
+                    return quota2 <= room - quota1;
+                }
+                return false;
             }
             return false;
         }

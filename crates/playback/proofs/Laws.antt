@@ -58,7 +58,7 @@ shown m r = record { played = handed r; bytes = image ours m (r .state .frames) 
 -- nothing of a trace matters but its records and its fault
 same-records : (b t u : List ℕ) → traced t ≡ traced u → plays t b ≡ plays u b
 unfolding plays runIn
-same-records b t u e = go (after ours Make b .answer)
+same-records b t u e = go (after Make b .answer)
   where
     go : (a : Answer) → onMade t b a ≡ onMade u b a
     go (Refused x) = refl
@@ -125,7 +125,7 @@ module _ (b : List ℕ) (low : start (ours .slots) ≤ length b) (high : length 
 
   -- ---- the book
 
-  pub play-book : (t : List ℕ) → plays t b .bytes ≡ onBytes (after ours) (Make ∷ puts (acceptedFrom room [] (traced t .records))) b .bytes
+  pub play-book : (t : List ℕ) → plays t b .bytes ≡ onBytes after (Make ∷ puts (acceptedFrom room [] (traced t .records))) b .bytes
   unfolding runIn onBytes
   play-book t = ap (λ (o : Outcome). o .bytes) (play-run t) ∙ sym (day-book b low high (traced t .records))
 

@@ -21,11 +21,12 @@ use Rattle.contents.proofs.Judged.{Bytes}
 use Rattle.contents.proofs.Written.{image-length}
 use Rattle.book.specs.declared.Answer.{Answer}
 use Rattle.book.specs.declared.Answer.the-variants.{Done, Refused}
-use Rattle.book.specs.Book.{made, opened, ours}
+use Rattle.book.specs.Book.{Edit, made, openedFor, ours, roomIn}
 use Rattle.book.specs.History.{Make, after}
 use Rattle.book.proofs.Calls.{done-refused}
 use Rattle.book.proofs.Kept.{Kept, empty-kept}
-use Rattle.book.proofs.History.{opened-image}
+use Rattle.book.proofs.Versions.{layout-image}
+use Rattle.book.proofs.History.{openedFor-image}
 use Rattle.day.specs.Days.{most, plus}
 use Rattle.day.specs.Steps.{State, step}
 use Rattle.day.proofs.Steps.{step-kept}
@@ -62,31 +63,31 @@ module _ (more : Bool) (c : Cursor) (p b : List ℕ) where
   pub passes-keep : (x : Refusal) → passes more c p b .passed .answer ≡ Refused x
       → (passes more c p b .passed .cursor ≡ c) × (passes more c p b .bytes ≡ b)
   unfolding passes
-  passes-keep x e = go (opened ours b) e
+  passes-keep x e = go (openedFor Edit b) e
     where
       go : (o : Contents) → onContents more c p b o .passed .answer ≡ Refused x
           → (onContents more c p b o .passed .cursor ≡ c) × (onContents more c p b o .bytes ≡ b)
       go (refused y) q = (refl, refl)
-      go (holds fs) q = absurd (done-refused (passFrom more (roomOf ours (length b)) (c .stage) p (record { frames = fs; day = c .day }) .used) x q)
+      go (holds fs) q = absurd (done-refused (passFrom more (roomIn b) (c .stage) p (record { frames = fs; day = c .day }) .used) x q)
 
   pub passes-used : usedBy (passes more c p b .passed .answer) ≤ length p
   unfolding passes
-  passes-used = go (opened ours b)
+  passes-used = go (openedFor Edit b)
     where
       go : (o : Contents) → usedBy (onContents more c p b o .passed .answer) ≤ length p
       go (refused y) = omega arith
-      go (holds fs) = pass-used more (roomOf ours (length b)) (c .stage) p (record { frames = fs; day = c .day })
+      go (holds fs) = pass-used more (roomIn b) (c .stage) p (record { frames = fs; day = c .day })
 
 -- on a book that holds a list
-module _ (c : Cursor) (p b : List ℕ) (fs : List (List ℕ)) (h : opened ours b ≡ holds fs) where
+module _ (c : Cursor) (p b : List ℕ) (fs : List (List ℕ)) (h : openedFor Edit b ≡ holds fs) where
   pub passes-over : isOver (passes false c p b .passed .cursor .stage) ≡ true
   unfolding passes
-  passes-over = rw h (pass-over (roomOf ours (length b)) (c .stage) p (record { frames = fs; day = c .day }))
+  passes-over = rw h (pass-over (roomIn b) (c .stage) p (record { frames = fs; day = c .day }))
 
   pub passes-goes : (more : Bool) → getD p 1 0 ≤ 255 → 257 ≤ length p
       → (0 < usedBy (passes more c p b .passed .answer)) ⊎ (isOver (passes more c p b .passed .cursor .stage) ≡ true)
   unfolding passes
-  passes-goes more k l = rw h (pass-goes more (roomOf ours (length b)) (c .stage) p (record { frames = fs; day = c .day }) k l)
+  passes-goes more k l = rw h (pass-goes more (roomIn b) (c .stage) p (record { frames = fs; day = c .day }) k l)
 
   pub fed-last : Fed c b p (ended (passes false c p b .passed .cursor)) (passes false c p b .bytes)
   fed-last =
@@ -161,9 +162,9 @@ module _ (m : ℕ) (low : start (ours .slots) ≤ m) (high : m ≤ longest) wher
     passes-on : b ≡ image ours m fs → Held s → passes more c p b ≡ record { passed = went w; bytes = image ours m (w .state .frames) }
     unfolding passes
     passes-on e K =
-        let o : opened ours (image ours m fs) ≡ holds fs = opened-image ours m low high fs K in
+        let o : openedFor Edit (image ours m fs) ≡ holds fs = openedFor-image m low high fs K Edit in
         let l : length (image ours m fs) ≡ m = image-length ours m fs (omega (arith, K .room, low)) in
-        rw (e, o, l) refl
+        rw (e, o, l, layout-image m fs) refl
 
   -- what the rest of the trace gives, as it is handed over
   abbrev Ends : Run → Played → List ℕ → Type 0
@@ -192,10 +193,10 @@ module _ (m : ℕ) (low : start (ours .slots) ≤ m) (high : m ≤ longest) wher
 
 -- passes over the parts of a trace, on a book that was made in the buffer, give what a whole playback gives
 pub parts-play : (t b : List ℕ) → start (ours .slots) ≤ length b → length b ≤ longest → Bytes t → length t ≤ most → (x : Played) (y : List ℕ)
-    → Fed started (after ours Make b .bytes) t x y → (x ≡ plays t b .played) × (y ≡ plays t b .bytes)
+    → Fed started (after Make b .bytes) t x y → (x ≡ plays t b .played) × (y ≡ plays t b .bytes)
 unfolding made restFrom runIn
 parts-play t b low high B l x y f =
-    let m : after ours Make b .bytes ≡ image ours (length b) [] = rw (le-leb (start (ours .slots)) (length b) low, le-leb (length b) longest high) refl in
+    let m : after Make b .bytes ≡ image ours (length b) [] = rw (le-leb (start (ours .slots)) (length b) low, le-leb (length b) longest high) refl in
     let z = fed-run (length b) low high f [] m (empty-kept (ours .slots) (roomOf ours (length b))) (l, first-small t B) in
     let e = play-run b low high t in
     (z .0 ∙ ap (λ (o : whole.Outcome). o .played) (sym e), z .1 ∙ ap (λ (o : whole.Outcome). o .bytes) (sym e))

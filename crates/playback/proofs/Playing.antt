@@ -15,11 +15,12 @@ use Rattle.contents.proofs.Judged.{Bytes}
 use Rattle.contents.proofs.Written.{image-length}
 use Rattle.book.specs.declared.Answer.{Answer}
 use Rattle.book.specs.declared.Answer.the-variants.{Done, Refused}
-use Rattle.book.specs.Book.{Outcome, Permits, made, opened, ours}
+use Rattle.book.specs.Book.{Edit, Outcome, Permits, made, openedFor, ours}
 use Rattle.book.specs.History.{Make, after}
 use Rattle.book.proofs.Calls.{done-refused}
 use Rattle.book.proofs.Kept.{empty-kept}
-use Rattle.book.proofs.History.{opened-image}
+use Rattle.book.proofs.Versions.{layout-image}
+use Rattle.book.proofs.History.{openedFor-image}
 use Rattle.contents.specs.Frames.{flat}
 use Rattle.day.specs.declared.Day.{Day}
 use Rattle.day.specs.Days.{fresh, most}
@@ -54,10 +55,10 @@ module _ (m : ℕ) (low : start (ours .slots) ≤ m) (high : m ≤ longest) (t :
   pub fresh-pass : (ended (passes false started t blank .passed .cursor) ≡ handed run) × (passes false started t blank .bytes ≡ image ours m (run .state .frames))
   unfolding passes
   fresh-pass =
-      let o : opened ours (image ours m []) ≡ holds [] = opened-image ours m low high [] (empty-kept (ours .slots) (roomOf ours m)) in
+      let o : openedFor Edit (image ours m []) ≡ holds [] = openedFor-image m low high [] (empty-kept (ours .slots) (roomOf ours m)) Edit in
       let w : Went = passFrom false (roomOf ours m) Header t morning in
       let e : record { state = w .state; stop = stopOf (w .stage) } ≡ runIn (roomOf ours m) t = pass-run (roomOf ours m) t short (first-small t B) in
-      rw (o, blank-length) (ap handed e, ap (λ (x : Run). image ours m (x .state .frames)) e)
+      rw (o, blank-length, layout-image m []) (ap handed e, ap (λ (x : Run). image ours m (x .state .frames)) e)
 
 -- ---- by what the make answers
 
@@ -69,7 +70,7 @@ module _ (t b a : List ℕ) where
       (record { answer = Refused BufferSize; output = []; bytes = b })
 
   -- no book can be made
-  pub play-refused : (m : Answer) (x : Refusal) (d : Day) → Permits (after ours Make b) m a → m ≡ Refused x → d ≡ fresh
+  pub play-refused : (m : Answer) (x : Refusal) (d : Day) → Permits (after Make b) m a → m ≡ Refused x → d ≡ fresh
       → (record { answer = m; day = d } ≡ plays t b .played) × (a ≡ plays t b .bytes)
   unfolding plays made made-by
   play-refused m x d e h k = go (leb (start (ours .slots)) (length b)) (leb (length b) longest) (e .0) (e .1)
@@ -81,7 +82,7 @@ module _ (t b a : List ℕ) where
       go false y f g = rw (f, k) (refl, g)
 
   -- a book is made, and one pass is over the whole trace
-  pub play-made : (m : Answer) (n : ℕ) → Permits (after ours Make b) m a → m ≡ Done n → length t ≤ most → Bytes t
+  pub play-made : (m : Answer) (n : ℕ) → Permits (after Make b) m a → m ≡ Done n → length t ≤ most → Bytes t
       → (i : Cursor) → i ≡ started → (q : Passed) (y : List ℕ) → (q ≡ passes false i t a .passed) × (y ≡ passes false i t a .bytes)
       → (r : Played) → r ≡ ended (q .cursor)
       → (r ≡ plays t b .played) × (y ≡ plays t b .bytes)

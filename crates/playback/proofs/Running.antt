@@ -10,12 +10,13 @@ use lib.ListN.{length, drop, length-drop, drop-of-length-le}
 use lib.Seq.{drop-drop}
 use borrow.Author.Tests.{le-leb, lt-leb}
 use Rattle.refusal.specs.declared.Refusal.{Refusal}
-use Rattle.contents.specs.Contents.{Contents, holds, image, longest, refused, roomOf, start}
+use Rattle.contents.specs.Contents.{Contents, Layout, holds, image, longest, refused, roomOf, start}
 use Rattle.contents.proofs.Judged.{Bytes, judge-reads}
 use Rattle.book.specs.declared.Answer.{Answer}
 use Rattle.book.specs.declared.Answer.the-variants.{Done, Refused}
-use Rattle.book.specs.Book.{opened, ours, verdict}
+use Rattle.book.specs.Book.{Edit, layoutIn, openedFor, ours, roomIn, verdict}
 use Rattle.book.proofs.Calls.{Holds, done-refused, opened-bytes, opened-holds, opened-judge}
+use Rattle.book.proofs.Versions.{edit-serves}
 use Rattle.book.proofs.Kept.{Kept, opened-kept}
 use Rattle.day.specs.declared.Day.{Day}
 use Rattle.day.specs.Days.{plus}
@@ -37,12 +38,13 @@ pub record Standing (m : ℕ) (b : List ℕ) (s : State) : Type 0 where
   pub low : start (ours .slots) ≤ m
   pub high : m ≤ longest
 
-pub sound-standing : (b : List ℕ) (d : Day) → Bytes b → Done 0 ≡ verdict (opened ours b) → Standing (length b) b (stateIn b d)
+pub sound-standing : (b : List ℕ) (d : Day) → Bytes b → Done 0 ≡ verdict (openedFor Edit b) → Standing (length b) b (stateIn b d)
 unfolding stateIn
 sound-standing b d B e =
-    let h : Holds ours b = opened-holds ours b 0 e in
+    let v = edit-serves b 0 e in
+    let h : Holds ours b = opened-holds ours b 0 (e ∙ ap verdict (v .opens)) in
     let r = judge-reads ours b (h .frames) (opened-judge ours b (h .frames) (h .opens)) in
-    rw (h .opens)
+    rw (v .opens, h .opens)
     (record { bytes = opened-bytes ours b (h .frames) B (h .opens); kept = opened-kept ours b (h .frames) (h .opens); low = r .small; high = r .big })
 
 step-standing : (m : ℕ) (b : List ℕ) (s : State) → Standing m b s → (q : Record) (r : Day) (x : List ℕ) → r ≡ stepDay q b (s .day) → x ≡ stepBytes q b
@@ -59,19 +61,28 @@ step-standing m b s z q r x e f = (
 
 -- ---- the loop over records
 
-pub record Along (m : ℕ) (more : Bool) (t : List ℕ) (whole : Went) (d : Day) (b : List ℕ) (i at left : ℕ) : Type 0 where
+-- in a book whose layout is the one that is edited
+pub record Along (l : Layout) (m : ℕ) (more : Bool) (t : List ℕ) (whole : Went) (d : Day) (b : List ℕ) (i at left : ℕ) : Type 0 where
   pub frames : List (List ℕ)
   pub stands : Standing m b (record { frames = frames; day = d })
   pub within : i ≤ length t
+  pub own : l ≡ ours
   pub rest : whole ≡ after i (passRecords more (roomOf ours m) left at (drop i t) (record { frames = frames; day = d }))
 
-pub along-start : (more : Bool) (t : List ℕ) (d : Day) (b : List ℕ) (i at left : ℕ) → Bytes b → Done 0 ≡ verdict (opened ours b) → i ≤ length t
-    → Along (length b) more t (after i (passRecords more (roomOf ours (length b)) left at (drop i t) (stateIn b d))) d b i at left
+pub along-start : (more : Bool) (t : List ℕ) (d : Day) (b : List ℕ) (i at left : ℕ) → Bytes b → Done 0 ≡ verdict (openedFor Edit b) → i ≤ length t
+    → Along (layoutIn b) (length b) more t (after i (passRecords more (roomIn b) left at (drop i t) (stateIn b d))) d b i at left
 unfolding stateIn
 along-start more t d b i at left B e w =
-    record { frames = framesIn (opened ours b); stands = sound-standing b d B e; within = w; rest = refl }
+    let o : layoutIn b ≡ ours = edit-serves b 0 e .layout in
+    record {
+      frames = framesIn (openedFor Edit b);
+      stands = sound-standing b d B e;
+      within = w;
+      own = o;
+      rest = ap (λ (l : Layout). after i (passRecords more (roomOf l (length b)) left at (drop i t) (stateIn b d))) o;
+    }
 
-module _ (m : ℕ) (more : Bool) (t : List ℕ) (whole : Went) (d : Day) (b : List ℕ) (i at left : ℕ) (z : Along m more t whole d b i at left) where
+module _ (l : Layout) (m : ℕ) (more : Bool) (t : List ℕ) (whole : Went) (d : Day) (b : List ℕ) (i at left : ℕ) (z : Along l m more t whole d b i at left) where
   abbrev s : State
   s = record { frames = z .frames; day = d }
 
@@ -79,16 +90,16 @@ module _ (m : ℕ) (more : Bool) (t : List ℕ) (whole : Went) (d : Day) (b : Li
   room = roomOf ours m
 
   pub along-next : (fewer n : ℕ) (r : Day) (x : List ℕ) → left ≡ suc fewer → (fits (drop i t) ≡ true) × (n ≡ sizeAt (drop i t)) × (i + n ≤ length t)
-      → (r ≡ stepDay (recordAt (drop i t)) b d) × (x ≡ stepBytes (recordAt (drop i t)) b) → Along m more t whole r x (i + n) (plus at n) fewer
+      → (r ≡ stepDay (recordAt (drop i t)) b d) × (x ≡ stepBytes (recordAt (drop i t)) b) → Along l m more t whole r x (i + n) (plus at n) fewer
   unfolding passRecords
-  along-next fewer n r x l f e =
+  along-next fewer n r x k f e =
       let q : Record = recordAt (drop i t) in
       let y = step-standing m b s (z .stands) q r x (e .0) (e .1) in
       let next : State = step room q s in
       let same : record { frames = next .frames; day = r } ≡ next = ap (λ (y : Day). record { frames = next .frames; day = y }) (y .0) in
       let on : ℕ → List ℕ → State → Went = λ n u v. passRecords more room fewer (plus at n) u v in
       let a : whole ≡ after i (after (sizeAt (drop i t)) (on (sizeAt (drop i t)) (drop (sizeAt (drop i t)) (drop i t)) next)) =
-      z .rest ∙ rw (l, f .0) refl
+      z .rest ∙ rw (k, f .0) refl
       in
       let g : whole ≡ after i (after n (on n (drop (i + n) t) next)) =
       a
@@ -100,6 +111,7 @@ module _ (m : ℕ) (more : Bool) (t : List ℕ) (whole : Went) (d : Day) (b : Li
         frames = next .frames;
         stands = subst (Standing m x) (sym same) (y .1);
         within = f .2;
+        own = z .own;
         rest =
             g
             ∙ ap (λ (u : ℕ). record { used = u; stage = on n (drop (i + n) t) next .stage; state = on n (drop (i + n) t) next .state }) h
@@ -108,30 +120,30 @@ module _ (m : ℕ) (more : Bool) (t : List ℕ) (whole : Went) (d : Day) (b : Li
 
   -- a loop that ends with this stage
   comes : (g : Stage) → passRecords more room left at (drop i t) s ≡ halts g s → (r : Passed)
-      → r ≡ record { answer = Done i; cursor = record { stage = g; day = d } } → Comes m whole r b
+      → r ≡ record { answer = Done i; cursor = record { stage = g; day = d } } → Comes l m whole r b
   comes g e r h =
       let k : i + 0 ≡ i = omega arith in
       let w : whole ≡ record { used = i; stage = g; state = s } =
       z .rest ∙ ap (after i) e ∙ ap (λ (u : ℕ). record { used = u; stage = g; state = s }) k
       in
-      record { told = h ∙ ap went (sym w); bytes = z .stands .bytes ∙ ap (λ (v : Went). image ours m (v .state .frames)) (sym w) }
+      record { told = h ∙ ap went (sym w); bytes = z .stands .bytes ∙ ap₂ (λ (j : Layout) (v : Went). image j m (v .state .frames)) (sym (z .own)) (sym w) }
 
-  pub along-end : left ≡ 0 → (r : Passed) → r ≡ record { answer = Done i; cursor = record { stage = Records 0 0 at; day = d } } → Comes m whole r b
+  pub along-end : left ≡ 0 → (r : Passed) → r ≡ record { answer = Done i; cursor = record { stage = Records 0 0 at; day = d } } → Comes l m whole r b
   unfolding passRecords
-  along-end l = comes (Records 0 0 at) (rw l refl)
+  along-end k = comes (Records 0 0 at) (rw k refl)
 
   -- no record fits: it never will, or may with more
-  module _ (l : 0 < left) (f : fits (drop i t) ≡ false) where
+  module _ (some : 0 < left) (f : fits (drop i t) ≡ false) where
     some-left : left ≡ suc (left - 1)
-    some-left = omega (arith, l)
+    some-left = omega (arith, some)
 
     pub along-stop : hopeless more (drop i t) ≡ true → (r : Passed)
-        → r ≡ record { answer = Done i; cursor = record { stage = Stopped at; day = d } } → Comes m whole r b
+        → r ≡ record { answer = Done i; cursor = record { stage = Stopped at; day = d } } → Comes l m whole r b
     unfolding passRecords
     along-stop h = comes (Stopped at) (ap (λ (n : ℕ). passRecords more room n at (drop i t) s) some-left ∙ rw (f, h) refl)
 
     pub along-wait : hopeless more (drop i t) ≡ false → (r : Passed)
-        → r ≡ record { answer = Done i; cursor = record { stage = Records left 0 at; day = d } } → Comes m whole r b
+        → r ≡ record { answer = Done i; cursor = record { stage = Records left 0 at; day = d } } → Comes l m whole r b
     unfolding passRecords
     along-wait h =
         comes (Records left 0 at)
@@ -197,16 +209,21 @@ module _ (more : Bool) (room : ℕ) (t : List ℕ) (s : State) where
 -- ---- handing over
 
 -- a pass that ends before any record
-pub comes-still : (b : List ℕ) (d : Day) (w : Went) (g : Stage) (u : ℕ) (r : Passed) → Bytes b → Done 0 ≡ verdict (opened ours b)
+pub comes-still : (b : List ℕ) (d : Day) (w : Went) (g : Stage) (u : ℕ) (r : Passed) → Bytes b → Done 0 ≡ verdict (openedFor Edit b)
     → record { used = u; stage = g; state = stateIn b d } ≡ w → r ≡ record { answer = Done u; cursor = record { stage = g; day = d } }
-    → Comes (length b) w r b
+    → Comes (layoutIn b) (length b) w r b
 unfolding stateIn
 comes-still b d w g u r B e h k =
-    record { told = k ∙ ap went h; bytes = sound-standing b d B e .bytes ∙ ap (λ (v : Went). image ours (length b) (v .state .frames)) h }
+    record {
+      told = k ∙ ap went h;
+      bytes =
+          sound-standing b d B e .bytes
+          ∙ ap₂ (λ (l : Layout) (v : Went). image l (length b) (v .state .frames)) (sym (edit-serves b 0 e .layout)) h;
+    }
 
 -- the same pass by another name
-pub comes-same : (m : ℕ) (v w : Went) (r : Passed) (x : List ℕ) → v ≡ w → Comes m v r x → Comes m w r x
-comes-same m v w r x e z = subst (λ (u : Went). Comes m u r x) e z
+pub comes-same : (l : Layout) (m : ℕ) (v w : Went) (r : Passed) (x : List ℕ) → v ≡ w → Comes l m v r x → Comes l m w r x
+comes-same l m v w r x e z = subst (λ (u : Went). Comes l m u r x) e z
 
 -- ---- a pass on whatever bytes there are
 
@@ -215,9 +232,9 @@ module _ (more : Bool) (c : Cursor) (p b : List ℕ) where
   Permits r x = (r ≡ passes more c p b .passed) × (x ≡ passes more c p b .bytes)
 
   -- the book refuses
-  pub pass-refused : (a : Answer) (x : Refusal) → a ≡ verdict (opened ours b) → a ≡ Refused x → Permits (record { answer = a; cursor = c }) b
+  pub pass-refused : (a : Answer) (x : Refusal) → a ≡ verdict (openedFor Edit b) → a ≡ Refused x → Permits (record { answer = a; cursor = c }) b
   unfolding passes
-  pass-refused a x e h = go (opened ours b) (sym h ∙ e)
+  pass-refused a x e h = go (openedFor Edit b) (sym h ∙ e)
     where
       go : (o : Contents) → Refused x ≡ verdict o
           → (record { answer = a; cursor = c } ≡ onContents more c p b o .passed) × (b ≡ onContents more c p b o .bytes)
@@ -225,13 +242,13 @@ module _ (more : Bool) (c : Cursor) (p b : List ℕ) where
       go (holds fs) z = absurd (done-refused 0 x (sym z))
 
   -- it does not: the pass from its stage, as it was handed over
-  pub pass-sound : Done 0 ≡ verdict (opened ours b) → (g : Stage) → c .stage ≡ g → (r : Passed) (x : List ℕ)
-      → Comes (length b) (passFrom more (roomOf ours (length b)) g p (stateIn b (c .day))) r x → Permits r x
+  pub pass-sound : Done 0 ≡ verdict (openedFor Edit b) → (g : Stage) → c .stage ≡ g → (r : Passed) (x : List ℕ)
+      → Comes (layoutIn b) (length b) (passFrom more (roomIn b) g p (stateIn b (c .day))) r x → Permits r x
   unfolding passes stateIn
-  pass-sound e g s r x z = go (opened ours b) e (subst (λ (j : Stage). Comes (length b) (passFrom more (roomOf ours (length b)) j p (stateIn b (c .day))) r x) (sym s) z)
+  pass-sound e g s r x z = go (openedFor Edit b) e (subst (λ (j : Stage). Comes (layoutIn b) (length b) (passFrom more (roomIn b) j p (stateIn b (c .day))) r x) (sym s) z)
     where
       go : (o : Contents) → Done 0 ≡ verdict o
-          → Comes (length b) (passFrom more (roomOf ours (length b)) (c .stage) p (record { frames = framesIn o; day = c .day })) r x
+          → Comes (layoutIn b) (length b) (passFrom more (roomIn b) (c .stage) p (record { frames = framesIn o; day = c .day })) r x
           → (r ≡ onContents more c p b o .passed) × (x ≡ onContents more c p b o .bytes)
       go (refused y) q k = absurd (done-refused 0 y q)
       go (holds fs) q k = (k .told, k .bytes)

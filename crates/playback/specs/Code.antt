@@ -5,8 +5,8 @@ use mathlib.Core.Path.{_≡_}
 use mathlib.Core.Bool.{Bool, cond}
 use mathlib.Core.List.{List, []}
 use lib.ListN.{length, drop}
-use Rattle.contents.specs.Contents.{Contents, holds, image, refused, roomOf}
-use Rattle.book.specs.Book.{opened, ours}
+use Rattle.contents.specs.Contents.{Contents, Layout, holds, image, refused}
+use Rattle.book.specs.Book.{Edit, layoutIn, openedFor, roomIn}
 use Rattle.day.specs.declared.Day.{Day}
 use Rattle.day.specs.Steps.{State}
 use Rattle.playback.specs.declared.Passed.{Passed}
@@ -25,22 +25,25 @@ framesIn (holds fs) = fs
 
 -- with a day's numbers beside it
 unfoldable pub stateIn : List ℕ → Day → State
-stateIn b d = record { frames = framesIn (opened ours b); day = d }
+stateIn b d = record { frames = framesIn (openedFor Edit b); day = d }
 
--- ---- a pass as it is handed over, in a book of m bytes
+-- ---- a pass as it is handed over, in a book of a layout and m bytes
 
-pub record Comes (m : ℕ) (w : Went) (r : Passed) (after : List ℕ) : Type 0 where
+pub record Comes (l : Layout) (m : ℕ) (w : Went) (r : Passed) (after : List ℕ) : Type 0 where
   pub told : r ≡ went w
-  pub bytes : after ≡ image ours m (w .state .frames)
+  pub bytes : after ≡ image l m (w .state .frames)
 
 -- the same of each of its three pieces: the records, the gap and the header, from a place of the part on, on the book that it begins with
 abbrev pub RecordsCome : Bool → ℕ → ℕ → ℕ → List ℕ → Day → List ℕ → Passed → List ℕ → Type 0
 RecordsCome more count at from p d before r after =
-    Comes (length before) (parts.after from (passRecords more (roomOf ours (length before)) count at (drop from p) (stateIn before d))) r after
+    Comes (layoutIn before) (length before)
+    (parts.after from (passRecords more (roomIn before) count at (drop from p) (stateIn before d))) r after
 
 abbrev pub GapComes : Bool → ℕ → ℕ → ℕ → ℕ → List ℕ → Day → List ℕ → Passed → List ℕ → Type 0
 GapComes more left skip at from p d before r after =
-    Comes (length before) (parts.after from (passGap more (roomOf ours (length before)) left skip at (drop from p) (stateIn before d))) r after
+    Comes (layoutIn before) (length before)
+    (parts.after from (passGap more (roomIn before) left skip at (drop from p) (stateIn before d))) r after
 
 abbrev pub HeaderComes : Bool → List ℕ → Day → List ℕ → Passed → List ℕ → Type 0
-HeaderComes more p d before r after = Comes (length before) (passHeader more (roomOf ours (length before)) p (stateIn before d)) r after
+HeaderComes more p d before r after =
+    Comes (layoutIn before) (length before) (passHeader more (roomIn before) p (stateIn before d)) r after

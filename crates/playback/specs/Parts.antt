@@ -6,9 +6,9 @@ use mathlib.Core.List.{List, []}
 use mathlib.Core.Option.{Option, none, some}
 use lib.Dec.{eqb, leb, ltb}
 use lib.ListN.{length, drop, getD}
-use Rattle.contents.specs.Contents.{Contents, holds, image, refused, roomOf}
+use Rattle.contents.specs.Contents.{Contents, holds, image, refused}
 use Rattle.book.specs.declared.Answer.the-variants.{Done, Refused}
-use Rattle.book.specs.Book.{opened, ours}
+use Rattle.book.specs.Book.{Edit, layoutIn, openedFor, roomIn}
 use Rattle.day.specs.Days.{fresh, plus}
 use Rattle.day.specs.Steps.{State, step}
 use Rattle.playback.specs.declared.Stage.{Stage}
@@ -101,9 +101,9 @@ pub record Outcome : Type 0 where
 abbrev pub onContents : Bool → Cursor → List ℕ → List ℕ → Contents → Outcome
 onContents more c p b (refused x) = record { passed = record { answer = Refused x; cursor = c }; bytes = b }
 onContents more c p b (holds fs) =
-    let w : Went = passFrom more (roomOf ours (length b)) (c .stage) p (record { frames = fs; day = c .day }) in
-    record { passed = went w; bytes = image ours (length b) (w .state .frames) }
+    let w : Went = passFrom more (roomIn b) (c .stage) p (record { frames = fs; day = c .day }) in
+    record { passed = went w; bytes = image (layoutIn b) (length b) (w .state .frames) }
 
 -- a pass on whatever bytes stand in the buffer
 unfoldable pub passes : Bool → Cursor → List ℕ → List ℕ → Outcome
-passes more c p b = onContents more c p b (opened ours b)
+passes more c p b = onContents more c p b (openedFor Edit b)

@@ -52,4 +52,4 @@ onMade t b (Done n) =
 
 -- a playback on whatever bytes stand in the buffer
 unfoldable pub plays : List ℕ → List ℕ → Outcome
-plays t b = onMade t b (after ours Make b .answer)
+plays t b = onMade t b (after Make b .answer)

@@ -4,7 +4,7 @@ ghost use mathlib.Core.Path.{_≡_};
 ghost use mathlib.Core.Bool.{true};
 ghost use Prim.Native.Nat.{_+_, _<_, _≤_};
 ghost use lib.ListN.{length, drop};
-ghost use Rattle.book.specs.Book.{opened, ours, verdict};
+ghost use Rattle.book.specs.Book.{Edit, openedFor, verdict};
 ghost use Rattle.day.specs.Days.{plus};
 ghost use Rattle.day.specs.Steps.{stepDay, stepBytes};
 ghost use Rattle.playback.specs.Trace.{recordAt, fits, sizeAt};
@@ -178,7 +178,7 @@ fn play_records(
     count: usize,
     offset: usize,
 ) -> Passed
-    requires { ⌜ (Answer.Done 0 ≡ verdict (opened ours (now book))) × (from ≤ length (now part)) ⌝ }
+    requires { ⌜ (Answer.Done 0 ≡ verdict (openedFor Edit (now book))) × (from ≤ length (now part)) ⌝ }
     ensures { λ r. ⌜ RecordsCome more count offset from (now (part .entry)) day (now (book .entry)) r (now (book .exit)) ⌝ }
 {
     let mut day = day;
@@ -221,7 +221,7 @@ fn play_gap(
     skip: usize,
     at: usize,
 ) -> Passed
-    requires { ⌜ (Answer.Done 0 ≡ verdict (opened ours (now book))) × (from ≤ length (now part)) ⌝ }
+    requires { ⌜ (Answer.Done 0 ≡ verdict (openedFor Edit (now book))) × (from ≤ length (now part)) ⌝ }
     ensures { λ r. ⌜ GapComes more left skip at from (now (part .entry)) day (now (book .entry)) r (now (book .exit)) ⌝ }
 {
     let here = part.len() - from;
@@ -241,7 +241,7 @@ fn play_gap(
 
 // The header, and what is behind it.
 fn play_header(day: Day, book: &mut [u8], part: &[u8], more: bool) -> Passed
-    requires { ⌜ Answer.Done 0 ≡ verdict (opened ours (now book)) ⌝ }
+    requires { ⌜ Answer.Done 0 ≡ verdict (openedFor Edit (now book)) ⌝ }
     ensures { λ r. ⌜ HeaderComes more (now (part .entry)) day (now (book .entry)) r (now (book .exit)) ⌝ }
 {
     if part.len() < 4 {
@@ -263,7 +263,7 @@ pub fn pass(cursor: Cursor, book: &mut [u8], part: &[u8], more: bool) -> Passed
     ensures { λ r. ⌜ r ≡ passes more cursor (now (part .entry)) (now (book .entry)) .passed ⌝ }
     ensures { λ _. ⌜ now (book .exit) ≡ passes more cursor (now (part .entry)) (now (book .entry)) .bytes ⌝ }
 {
-    let found = book::ready(book);
+    let found = book::ready_to_edit(book);
     let Answer::Done(_) = found else {
         return Passed {
             answer: found,

@@ -7,7 +7,7 @@ use Prim.Native.Nat.{ℕ, _≤_}
 use native.Mathlib.Omega.{arith}
 use lib.ListN.{length}
 use Rattle.texts.specs.Words.{line, spaced}
-use Rattle.book.specs.Book.{opened, ours}
+use Rattle.book.specs.Book.{Read, openedFor}
 use Rattle.locker_profile.specs.declared.Answer.{Answer}
 use Rattle.locker_profile.specs.declared.Answer.the-variants.{Broken, Refused, Yes}
 use Rattle.locker_profile.specs.Profile.{answerFor}
@@ -21,7 +21,7 @@ given b = by (answerFor b) refl
   where
     by : (a : Answer) → answerFor b ≡ a → IsGiven a
     by Yes e = tt
-    by (Broken n) e = broken-bounds (opened ours b) n e
+    by (Broken n) e = broken-bounds (openedFor Read b) n e
     by (Refused x) e = profiled-place b x e
 
 pub books-apart : (b c : List ℕ) → answerText (answerFor b) ≡ answerText (answerFor c) → answerFor b ≡ answerFor c

@@ -14,13 +14,13 @@ use Rattle.refusal.specs.declared.Refusal.the-variants.{OwnersWrong}
 use Rattle.reel.specs.Reel.{reelOf}
 use Rattle.table.specs.Table.{settings}
 use Rattle.contents.specs.Frames.{flat}
-use Rattle.contents.specs.Contents.{Layout, longest, roomOf, start}
+use Rattle.contents.specs.Contents.{longest, roomOf, start}
 use Rattle.owners.specs.Owners.{OwnerTable, isSide, quotaOf, tableRight}
 use Rattle.settings.proofs.Settings.{both}
 use Rattle.book.specs.declared.Answer.{Answer}
 use Rattle.book.specs.declared.Answer.the-variants.{Done, Refused}
 use Rattle.book.specs.Plain.{Turn, refuse, replayOn}
-use Rattle.book.specs.Book.{made}
+use Rattle.book.specs.Book.{made, ours}
 use Rattle.book.specs.History.{BytesRun, Call, Heard, onBytes, onList, turn}
 use Rattle.book.specs.History as whole
 use Rattle.book.proofs.Kept.{tell-frames}
@@ -150,18 +150,18 @@ unfolding onList
 heard-length on [] fs = refl
 heard-length on (c ∷ cs) fs = ap suc (heard-length on cs (on c fs .frames))
 
-module _ (l : Layout) (big : settings ≤ l .slots) (t : OwnerTable) where
+module _ (t : OwnerTable) where
   -- A SIDE HEARS WHAT ITS OWN CALLS GIVE ON ITS OWN LIST, on a fresh book that only the sides' calls write
-  pub side-alone : (b : List ℕ) → start (l .slots) ≤ length b → length b ≤ longest → (w : ℕ) → isSide w ≡ true → (es : List Event) → bySides es ≡ true
-      → heardBy w es (onBytes (afterEvent l t) es (made l b .bytes) .heard) ≡ onList (alone (l .slots) (roomOf l (length b)) t) (callsOf w es) [] .heard
+  pub side-alone : (b : List ℕ) → start (ours .slots) ≤ length b → length b ≤ longest → (w : ℕ) → isSide w ≡ true → (es : List Event) → bySides es ≡ true
+      → heardBy w es (onBytes (afterEvent t) es (made ours b .bytes) .heard) ≡ onList (alone (ours .slots) (roomOf ours (length b)) t) (callsOf w es) [] .heard
   unfolding flat
   side-alone b low high w side es s =
-      let hs : List Heard = onBytes (afterEvent l t) es (made l b .bytes) .heard in
-      let n : length (onBytes (afterEvent l t) es (made l b .bytes) .heard) ≡ length es =
-      ap (λ (r : BytesRun). length (r .heard)) (shared-history l big t b low high es) ∙ heard-length (jointly (l .slots) (roomOf l (length b)) t) es [] in
-      ap (heardBy w es) (side-history l big t b low high es)
-      ∙ lists-alone (l .slots) (roomOf l (length b)) t w side es hs [] [] n s (quotas-within t [] [] (omega arith) (omega arith))
-      ∙ ap (λ (gs : List (List ℕ)). onList (alone (l .slots) (roomOf l (length b)) t) (callsOf w es) gs .heard) (none (eqb w 1))
+      let hs : List Heard = onBytes (afterEvent t) es (made ours b .bytes) .heard in
+      let n : length (onBytes (afterEvent t) es (made ours b .bytes) .heard) ≡ length es =
+      ap (λ (r : BytesRun). length (r .heard)) (shared-history t b low high es) ∙ heard-length (jointly (ours .slots) (roomOf ours (length b)) t) es [] in
+      ap (heardBy w es) (side-history t b low high es)
+      ∙ lists-alone (ours .slots) (roomOf ours (length b)) t w side es hs [] [] n s (quotas-within t [] [] (omega arith) (omega arith))
+      ∙ ap (λ (gs : List (List ℕ)). onList (alone (ours .slots) (roomOf ours (length b)) t) (callsOf w es) gs .heard) (none (eqb w 1))
     where
       none : (x : Bool) → cond {A = List (List ℕ)} x [] [] ≡ []
       none true = refl
@@ -169,13 +169,13 @@ module _ (l : Layout) (big : settings ≤ l .slots) (t : OwnerTable) where
 
   -- NO INTERFERENCE: two histories of fresh books of one length, written only by the sides' calls, that agree on one side's calls give that side
   -- the same answers and the same outputs, whatever the other side does and however the calls are interleaved.
-  pub no-interference : (b d : List ℕ) → length b ≡ length d → start (l .slots) ≤ length b → length b ≤ longest → (w : ℕ) → isSide w ≡ true
+  pub no-interference : (b d : List ℕ) → length b ≡ length d → start (ours .slots) ≤ length b → length b ≤ longest → (w : ℕ) → isSide w ≡ true
       → (es ds : List Event) → bySides es ≡ true → bySides ds ≡ true → callsOf w es ≡ callsOf w ds
-      → heardBy w es (onBytes (afterEvent l t) es (made l b .bytes) .heard) ≡ heardBy w ds (onBytes (afterEvent l t) ds (made l d .bytes) .heard)
+      → heardBy w es (onBytes (afterEvent t) es (made ours b .bytes) .heard) ≡ heardBy w ds (onBytes (afterEvent t) ds (made ours d .bytes) .heard)
   no-interference b d n low high w side es ds p q e = side-alone b low high w side es p ∙ middle ∙ sym (side-alone d (omega arith) (omega arith) w side ds q)
     where
-      middle : onList (alone (l .slots) (roomOf l (length b)) t) (callsOf w es) [] .heard
-          ≡ onList (alone (l .slots) (roomOf l (length d)) t) (callsOf w ds) [] .heard
+      middle : onList (alone (ours .slots) (roomOf ours (length b)) t) (callsOf w es) [] .heard
+          ≡ onList (alone (ours .slots) (roomOf ours (length d)) t) (callsOf w ds) [] .heard
       middle = rw (n, e)
 
 -- ---- the quotas

@@ -9,7 +9,6 @@ use native.Mathlib.Omega.{arith}
 use borrow.Author.Tests.{eq-eqb, le-leb, lt-leb, lt-ltb, ltb-true}
 use lib.Dec.{eqb, leb, ltb}
 use lib.ListN.{drop, length, length-append, take}
-use lib.Seq.{take-append-seam}
 use Rattle.refusal.specs.declared.Refusal.{Refusal}
 use Rattle.refusal.specs.declared.Refusal.the-variants.{NoRoom, NotAKind, NotHeld, OtherSide, OutputShort, OwnersWrong}
 use Rattle.reel.specs.Reel.{Unreeled, reelOf}
@@ -26,42 +25,54 @@ use Rattle.owners.proofs.Laws.{owns-other, table-right}
 use Rattle.book.specs.declared.Answer.{Answer}
 use Rattle.book.specs.declared.Answer.the-variants.{Done, Refused}
 use Rattle.book.specs.Plain.{Turn, askOn, become, clearOn, placed, putOn, refuse, removeOn, replayOn, tell, without}
-use Rattle.book.specs.Book.{Outcome, Permits, Tells, call, onContents, opened, ours, verdict}
-use Rattle.book.proofs.Calls.{Gives, done-refused, opened-bytes, opened-judge, present-held, turned-away}
+use Rattle.book.specs.Book.{Edit, Outcome, Permits, Read, Tells, Use, callFor, layoutIn, longestReel, onContents, opened, openedFor, ours, roomIn, verdict}
+use Rattle.book.proofs.Calls.{done-refused, opened-bytes, opened-judge, present-held}
+use Rattle.book.proofs.Versions.{edit-opened, edit-serves, openedFor-opened, turned-off}
 use Rattle.book.proofs.Kept.{Kept, opened-kept, remove-kept}
-use Rattle.book.proofs.Known.{stay}
-use Rattle.book.proofs.History.{call-image}
-use Rattle.book.proofs.Single.{replay-most}
+use Rattle.book.proofs.History.{for-image}
+use Rattle.book.proofs.Told.{replay-refused}
 use Rattle.sides.specs.Parts.{chosen, partOf, restOf, withinQuotas}
-use Rattle.sides.specs.Calls.{Ask, Clear, Put, Remove, Replay, Request, barred, foreign, mayCall, named, sideCall, sideOn}
-use Rattle.sides.specs.Means.{Retold, emptied, emptiedBytes, longestReel, mayRead, picked, unless, weightAfter, weightFrom}
+use Rattle.sides.specs.Calls.{Ask, Clear, Put, Remove, Replay, Request, barred, foreign, mayCall, named, sideCall, sideOn, wantsOf}
+use Rattle.sides.specs.Means.{Retold, behind, emptied, emptiedBytes, mayRead, picked, weightAfter, weightFrom}
 use Rattle.sides.proofs.Views.{own-slot}
 use Rattle.sides.proofs.Means.{ask-means, emptied-rest, may-call, put-full, put-means, put-none, remove-means, side-barred, side-step, side-wrong}
 use Rattle.sides.proofs.Weighing.{side-weight, weight-is, weight-placed}
 
 -- ---- what the code reads
 
+-- the frames of a book that can be edited
+pub record Found (b : List ℕ) : Type 0 where
+  pub frames : List (List ℕ)
+  pub opens : openedFor Edit b ≡ holds frames
+
+pub found-frames : (b : List ℕ) (n : ℕ) → Done n ≡ verdict (openedFor Edit b) → Found b
+found-frames b n e = go (openedFor Edit b) refl e
+  where
+    go : (q : Contents) → openedFor Edit b ≡ q → Done n ≡ verdict q → Found b
+    go (refused x) w z = absurd (done-refused n x z)
+    go (holds fs) w z = record { frames = fs; opens = w }
+
 -- a book that a side may call
 pub record Open (t : OwnerTable) (w : ℕ) (b : List ℕ) : Type 0 where
   pub frames : List (List ℕ)
-  pub opens : opened ours b ≡ holds frames
-  pub may : mayCall (ours .slots) t w (roomOf ours (length b)) (partOf t 1 frames) (partOf t 2 frames) ≡ true
+  pub opens : opened (layoutIn b) b ≡ holds frames
+  pub may : mayCall (layoutIn b .slots) t w (roomIn b) (partOf t 1 frames) (partOf t 2 frames) ≡ true
 
 -- what the header says of the quotas is so of the frames
-read-may : (t : OwnerTable) (w : ℕ) (b : List ℕ) (fs : List (List ℕ)) → opened ours b ≡ holds fs
-    → mayRead (ours .slots) t w (roomOf ours (length b)) b ≡ mayCall (ours .slots) t w (roomOf ours (length b)) (partOf t 1 fs) (partOf t 2 fs)
+read-may : (t : OwnerTable) (w : ℕ) (b : List ℕ) (fs : List (List ℕ)) → opened (layoutIn b) b ≡ holds fs
+    → mayRead (layoutIn b .slots) t w (roomIn b) b ≡ mayCall (layoutIn b .slots) t w (roomIn b) (partOf t 1 fs) (partOf t 2 fs)
 unfolding mayRead mayCall withinQuotas
 read-may t w b fs h =
-    rw (weight-is ours (omega arith) b fs h (owns (t .owners) 1), weight-is ours (omega arith) b fs h (owns (t .owners) 2))
+    rw (weight-is (layoutIn b) b fs h (owns (t .owners) 1), weight-is (layoutIn b) b fs h (owns (t .owners) 2))
 
--- a refusal behind the book's own
-pub refused-own : (why : Refusal) (q : Contents) (a : Answer) (x : Refusal) → a ≡ verdict q → a ≡ Refused x → a ≡ unless why q
-refused-own why (refused y) a x h z = h
-refused-own why (holds fs) a x h z = absurd (done-refused 0 x (sym h ∙ z))
+-- what is edited has a slot for each setting
+edit-slots : (b : List ℕ) (fs : List (List ℕ)) → openedFor Edit b ≡ holds fs → layoutIn b .slots ≡ ours .slots
+edit-slots b fs h = ap (λ (l : Layout). l .slots) (edit-serves b 0 (sym (ap verdict h)) .layout)
 
-pub refused-why : (why : Refusal) (q : Contents) (n : ℕ) → Done n ≡ verdict q → Refused why ≡ unless why q
-refused-why why (refused y) n h = absurd (done-refused n y h)
-refused-why why (holds fs) n h = refl
+-- a refusal behind what was found of a book is one behind the book's own
+pub own-first : (u : Use) (b : List ℕ) (why : Refusal) (found a : Answer) → a ≡ behind found why → found ≡ verdict (openedFor u b)
+    → a ≡ behind (verdict (openedFor u b)) why
+own-first u b why found a e f = e ∙ ap (λ (x : Answer). behind x why) f
 
 -- what is read of table, caller and quotas, one after the other
 module _ (m : ℕ) (t : OwnerTable) (w room : ℕ) (b : List ℕ) where
@@ -74,89 +85,120 @@ module _ (m : ℕ) (t : OwnerTable) (w room : ℕ) (b : List ℕ) where
     unfolding mayRead
     read-caller e = sym (rw (right, e))
 
-    module _ (side : isSide w ≡ true) (r : ℕ) (h : r ≡ weightFrom settings (owns (t .owners) 1) b 0) where
+    module _ (side : isSide w ≡ true) (r : ℕ) (h : r ≡ weightFrom m settings (owns (t .owners) 1) b 0) where
       pub read-first : t .quota1 < r → false ≡ mayRead m t w room b
       unfolding mayRead
-      read-first l = sym (rw (right, side, lt-leb (weightFrom settings (owns (t .owners) 1) b 0) (t .quota1) (omega arith)))
+      read-first l = sym (rw (right, side, lt-leb (weightFrom m settings (owns (t .owners) 1) b 0) (t .quota1) (omega arith)))
 
-      pub read-second : r ≤ t .quota1 → (s : ℕ) → s ≡ weightFrom settings (owns (t .owners) 2) b 0 → leb s (t .quota2) ≡ mayRead m t w room b
+      pub read-second : r ≤ t .quota1 → (s : ℕ) → s ≡ weightFrom m settings (owns (t .owners) 2) b 0 → leb s (t .quota2) ≡ mayRead m t w room b
       unfolding mayRead
       read-second l s g =
           ap (λ (x : ℕ). leb x (t .quota2)) g
-          ∙ sym (rw (right, side, le-leb (weightFrom settings (owns (t .owners) 1) b 0) (t .quota1) (omega arith)))
+          ∙ sym (rw (right, side, le-leb (weightFrom m settings (owns (t .owners) 1) b 0) (t .quota1) (omega arith)))
 
 -- ---- a side's call
 
+-- what a call gives, all of it
+pub record Gives (u : Use) (s : List ℕ → ℕ → List (List ℕ) → Turn) (o b : List ℕ) (a : Answer) (x y : List ℕ) : Type 0 where
+  pub answer : a ≡ callFor u s o b .answer
+  pub output : x ≡ callFor u s o b .output
+  pub bytes : y ≡ callFor u s o b .bytes
+
+module _ (u : Use) (s : List ℕ → ℕ → List (List ℕ) → Turn) (o b : List ℕ) (a : Answer) (x y : List ℕ) (g : Gives u s o b a x y) where
+  pub permits : Permits (callFor u s o b) a y
+  permits = (g .answer, g .bytes)
+
+  pub tells : Tells (callFor u s o b) a x
+  tells = (g .answer, g .output)
+
 module _ (t : OwnerTable) (w : ℕ) (b : List ℕ) (B : Bytes b) where
   -- a step that refuses and keeps the frames keeps the bytes
-  kept-away : (s : List ℕ → ℕ → List (List ℕ) → Turn) (o : List ℕ) (fs : List (List ℕ)) (x : Refusal) → opened ours b ≡ holds fs
-      → s o (roomOf ours (length b)) fs ≡ refuse x o fs → Gives ours s o b (Refused x) o b
-  kept-away s o fs x h e = stay ours b B (record { frames = fs; reads = opened-judge ours b fs h; opens = h }) s o (Refused x) o e
+  kept-away : (u : Use) (s : List ℕ → ℕ → List (List ℕ) → Turn) (o : List ℕ) (fs : List (List ℕ)) (x : Refusal) → openedFor u b ≡ holds fs
+      → s o (roomIn b) fs ≡ refuse x o fs → Gives u s o b (Refused x) o b
+  unfolding callFor
+  kept-away u s o fs x h e =
+      record {
+        answer = rw h (ap (λ (y : Turn). y .answer) (sym e));
+        output = rw h (ap (λ (y : Turn). y .output) (sym e));
+        bytes =
+            rw h
+            (opened-bytes (layoutIn b) b fs B (openedFor-opened u b fs h) ∙ ap (λ (y : Turn). image (layoutIn b) (length b) (y .frames)) (sym e));
+      }
 
   -- a refusal that the side's list gives comes behind the book's own
   away : (c : Request) (o : List ℕ) (x : Refusal)
-      → ((fs : List (List ℕ)) → opened ours b ≡ holds fs → sideOn (ours .slots) t w c o (roomOf ours (length b)) fs ≡ refuse x o fs)
-      → (a : Answer) → a ≡ unless x (opened ours b) → Gives ours (sideOn (ours .slots) t w c) o b a o b
-  away c o x s a e = go (opened ours b) refl e
+      → ((fs : List (List ℕ)) → openedFor (wantsOf c) b ≡ holds fs → sideOn (layoutIn b .slots) t w c o (roomIn b) fs ≡ refuse x o fs)
+      → (a : Answer) → a ≡ behind (verdict (openedFor (wantsOf c) b)) x → Gives (wantsOf c) (sideOn (layoutIn b .slots) t w c) o b a o b
+  away c o x s a e = go (openedFor (wantsOf c) b) refl e
     where
-      go : (q : Contents) → opened ours b ≡ q → a ≡ unless x q → Gives ours (sideOn (ours .slots) t w c) o b a o b
-      go (refused y) h r = turned-away ours (sideOn (ours .slots) t w c) o b a y (r ∙ ap verdict (sym h)) r
+      go : (q : Contents) → openedFor (wantsOf c) b ≡ q → a ≡ behind (verdict q) x → Gives (wantsOf c) (sideOn (layoutIn b .slots) t w c) o b a o b
+      go (refused y) h r =
+          let z = turned-off (sideOn (layoutIn b .slots) t w c) o b (wantsOf c) a y (r ∙ ap verdict (sym h)) r in
+          record { answer = z .0; output = z .1; bytes = z .2 }
       go (holds fs) h r =
-          subst (λ (y : Answer). Gives ours (sideOn (ours .slots) t w c) o b y o b) (sym r) (kept-away (sideOn (ours .slots) t w c) o fs x h (s fs h))
+          subst (λ (y : Answer). Gives (wantsOf c) (sideOn (layoutIn b .slots) t w c) o b y o b) (sym r)
+          (kept-away (wantsOf c) (sideOn (layoutIn b .slots) t w c) o fs x h (s fs h))
 
   -- a step that does to the book's frames what the side's call does is the call
   same-call : (s : List ℕ → ℕ → List (List ℕ) → Turn) (c : Request) (o : List ℕ)
-      → ((fs : List (List ℕ)) → opened ours b ≡ holds fs
-      → sideOn (ours .slots) t w c o (roomOf ours (length b)) fs ≡ s o (roomOf ours (length b)) fs)
-      → call ours s o b ≡ sideCall ours t w c o b
-  unfolding call
-  same-call s c o e = go (opened ours b) refl
+      → ((fs : List (List ℕ)) → openedFor (wantsOf c) b ≡ holds fs
+      → sideOn (layoutIn b .slots) t w c o (roomIn b) fs ≡ s o (roomIn b) fs)
+      → callFor (wantsOf c) s o b ≡ sideCall t w c o b
+  unfolding callFor
+  same-call s c o e = go (openedFor (wantsOf c) b) refl
     where
-      go : (q : Contents) → opened ours b ≡ q → onContents ours s o b q ≡ onContents ours (sideOn (ours .slots) t w c) o b q
+      go : (q : Contents) → openedFor (wantsOf c) b ≡ q
+          → onContents (layoutIn b) s o b q ≡ onContents (layoutIn b) (sideOn (layoutIn b .slots) t w c) o b q
       go (refused y) h = refl
       go (holds fs) h = sym (rw (e fs h))
 
   -- a side that may not call
-  wrong-frames : mayRead (ours .slots) t w (roomOf ours (length b)) b ≡ false → (fs : List (List ℕ)) → opened ours b ≡ holds fs → (c : Request) (o : List ℕ)
-      → sideOn (ours .slots) t w c o (roomOf ours (length b)) fs ≡ refuse OwnersWrong o fs
-  wrong-frames bad fs h c o = side-wrong (ours .slots) t w (roomOf ours (length b)) fs (sym (read-may t w b fs h) ∙ bad) c o
+  wrong-frames : mayRead (layoutIn b .slots) t w (roomIn b) b ≡ false → (fs : List (List ℕ)) → opened (layoutIn b) b ≡ holds fs → (c : Request) (o : List ℕ)
+      → sideOn (layoutIn b .slots) t w c o (roomIn b) fs ≡ refuse OwnersWrong o fs
+  wrong-frames bad fs h c o = side-wrong (layoutIn b .slots) t w (roomIn b) fs (sym (read-may t w b fs h) ∙ bad) c o
 
-  pub wrong-kept : mayRead (ours .slots) t w (roomOf ours (length b)) b ≡ false → (fs : List (List ℕ)) → opened ours b ≡ holds fs → (c : Request) (o : List ℕ)
-      → Gives ours (sideOn (ours .slots) t w c) o b (Refused OwnersWrong) o b
-  wrong-kept bad fs h c o = kept-away (sideOn (ours .slots) t w c) o fs OwnersWrong h (wrong-frames bad fs h c o)
+  pub wrong-kept : mayRead (layoutIn b .slots) t w (roomIn b) b ≡ false → (fs : List (List ℕ)) (c : Request) → openedFor (wantsOf c) b ≡ holds fs → (o : List ℕ)
+      → Gives (wantsOf c) (sideOn (layoutIn b .slots) t w c) o b (Refused OwnersWrong) o b
+  wrong-kept bad fs c h o =
+      kept-away (wantsOf c) (sideOn (layoutIn b .slots) t w c) o fs OwnersWrong h (wrong-frames bad fs (openedFor-opened (wantsOf c) b fs h) c o)
 
-  pub wrong-away : mayRead (ours .slots) t w (roomOf ours (length b)) b ≡ false → (c : Request) (o : List ℕ) (a : Answer)
-      → a ≡ unless OwnersWrong (opened ours b) → Gives ours (sideOn (ours .slots) t w c) o b a o b
-  wrong-away bad c o = away c o OwnersWrong (λ fs h. wrong-frames bad fs h c o)
+  pub wrong-away : mayRead (layoutIn b .slots) t w (roomIn b) b ≡ false → (c : Request) (o : List ℕ) (a : Answer)
+      → a ≡ behind (verdict (openedFor (wantsOf c) b)) OwnersWrong → Gives (wantsOf c) (sideOn (layoutIn b .slots) t w c) o b a o b
+  wrong-away bad c o = away c o OwnersWrong (λ fs h. wrong-frames bad fs (openedFor-opened (wantsOf c) b fs h) c o)
 
-  module _ (good : mayRead (ours .slots) t w (roomOf ours (length b)) b ≡ true) where
-    pub may : (fs : List (List ℕ)) → opened ours b ≡ holds fs → mayCall (ours .slots) t w (roomOf ours (length b)) (partOf t 1 fs) (partOf t 2 fs) ≡ true
+  module _ (good : mayRead (layoutIn b .slots) t w (roomIn b) b ≡ true) where
+    pub may : (fs : List (List ℕ)) → opened (layoutIn b) b ≡ holds fs → mayCall (layoutIn b .slots) t w (roomIn b) (partOf t 1 fs) (partOf t 2 fs) ≡ true
     may fs h = sym (read-may t w b fs h) ∙ good
 
-    abbrev pub enter : (fs : List (List ℕ)) → opened ours b ≡ holds fs → Open t w b
+    abbrev pub enter : (fs : List (List ℕ)) → opened (layoutIn b) b ≡ holds fs → Open t w b
     enter fs h = record { frames = fs; opens = h; may = may fs h }
 
-    pub barred-away : (c : Request) (o : List ℕ) → barred t w c ≡ true → (a : Answer) → a ≡ unless OtherSide (opened ours b)
-        → Gives ours (sideOn (ours .slots) t w c) o b a o b
-    barred-away c o u = away c o OtherSide (λ fs h. side-barred (ours .slots) t w (roomOf ours (length b)) fs (may fs h) c o u)
+    pub barred-away : (c : Request) (o : List ℕ) → barred t w c ≡ true → (a : Answer) → a ≡ behind (verdict (openedFor (wantsOf c) b)) OtherSide
+        → Gives (wantsOf c) (sideOn (layoutIn b .slots) t w c) o b a o b
+    barred-away c o u =
+        away c o OtherSide
+        (λ fs h. side-barred (layoutIn b .slots) t w (roomIn b) fs (may fs (openedFor-opened (wantsOf c) b fs h)) c o u)
 
-    pub remove-call : (k : ℕ) → barred t w (Remove k) ≡ false → call ours (removeOn k) [] b ≡ sideCall ours t w (Remove k) [] b
-    remove-call k u = same-call (removeOn k) (Remove k) [] (λ fs h. remove-means (ours .slots) t w (roomOf ours (length b)) fs (may fs h) k [] u)
+    pub remove-call : (k : ℕ) → barred t w (Remove k) ≡ false → callFor Edit (removeOn k) [] b ≡ sideCall t w (Remove k) [] b
+    remove-call k u =
+        same-call (removeOn k) (Remove k) []
+        (λ fs h. remove-means (layoutIn b .slots) t w (roomIn b) fs (may fs (openedFor-opened Edit b fs h)) k [] u)
 
-    pub ask-call : (k : ℕ) (o : List ℕ) → barred t w (Ask k) ≡ false → call ours (askOn k) o b ≡ sideCall ours t w (Ask k) o b
-    ask-call k o u = same-call (askOn k) (Ask k) o (λ fs h. ask-means (ours .slots) t w (roomOf ours (length b)) fs (may fs h) k o u)
+    pub ask-call : (k : ℕ) (o : List ℕ) → barred t w (Ask k) ≡ false → callFor Read (askOn k) o b ≡ sideCall t w (Ask k) o b
+    ask-call k o u = same-call (askOn k) (Ask k) o (λ fs h. ask-means (layoutIn b .slots) t w (roomIn b) fs (may fs (openedFor-opened Read b fs h))
+        (opened-kept (layoutIn b) b fs (openedFor-opened Read b fs h) .within) k o u)
 
     -- ---- put
 
     module _ (f : List ℕ) (s : ℕ) (e : s ≡ slotOf f) (u : barred t w (Put f) ≡ false) where
       -- what is no setting's frame goes to the book's put, which refuses it
-      pub put-other : settings ≤ s → call ours (putOn f) [] b ≡ sideCall ours t w (Put f) [] b
+      pub put-other : settings ≤ s → callFor Edit (putOn f) [] b ≡ sideCall t w (Put f) [] b
       put-other a =
-          same-call (putOn f) (Put f) [] (λ fs h. put-none (ours .slots) t w (roomOf ours (length b)) fs (may fs h) f [] (omega arith) u)
+          same-call (putOn f) (Put f) [] (λ fs h. put-none (layoutIn b .slots) t w (roomIn b) fs (may fs (openedFor-opened Edit b fs h)) f [] (omega arith) u)
 
       module _ (a : s < settings) (held r : ℕ)
-          (k : held ≡ cond (eqb w 1) (weightFrom settings (owns (t .owners) 1) b 0) (weightFrom settings (owns (t .owners) 2) b 0))
-          (g : r ≡ weightAfter b s held (length f)) where
+          (k : held ≡ cond (eqb w 1) (weightFrom (layoutIn b .slots) settings (owns (t .owners) 1) b 0)
+          (weightFrom (layoutIn b .slots) settings (owns (t .owners) 2) b 0)) (g : r ≡ weightAfter (layoutIn b .slots) b s held (length f)) where
         low : slotOf f < settings
         low = omega arith
 
@@ -164,25 +206,26 @@ module _ (t : OwnerTable) (w : ℕ) (b : List ℕ) (B : Bytes b) where
         unfolding barred
         own = own-slot t w (slotOf f) u (lt-ltb (slotOf f) settings low)
 
-        weighed : (fs : List (List ℕ)) → opened ours b ≡ holds fs → r ≡ length (flat (placed f (partOf t w fs)))
+        weighed : (fs : List (List ℕ)) → opened (layoutIn b) b ≡ holds fs → r ≡ length (flat (placed f (partOf t w fs)))
         weighed fs h =
-            let M = may-call (ours .slots) t w (roomOf ours (length b)) fs (may fs h) in
+            let M = may-call (layoutIn b .slots) t w (roomIn b) fs (may fs h) in
             g
-            ∙ ap₂ (λ (x y : ℕ). weightAfter b x y (length f)) e
-            (k ∙ side-weight b (t .owners) w (M .side) ∙ weight-is ours (omega arith) b fs h (owns (t .owners) w))
-            ∙ weight-placed ours (omega arith) b fs h t w f low own
-            (owns-other (t .owners) (table-right (ours .slots) (roomOf ours (length b)) t (M .right) .whole) w (slotOf f) ∙ own)
+            ∙ ap₂ (λ (x y : ℕ). weightAfter (layoutIn b .slots) b x y (length f)) e
+            (k ∙ side-weight (layoutIn b .slots) b (t .owners) w (M .side) ∙ weight-is (layoutIn b) b fs h (owns (t .owners) w))
+            ∙ weight-placed (layoutIn b) b fs h t w f low own
+            (owns-other (t .owners) (table-right (layoutIn b .slots) (roomIn b) t (M .right) .whole) w (slotOf f) ∙ own)
 
-        pub put-call : r ≤ quotaOf t w → call ours (putOn f) [] b ≡ sideCall ours t w (Put f) [] b
+        pub put-call : r ≤ quotaOf t w → callFor Edit (putOn f) [] b ≡ sideCall t w (Put f) [] b
         put-call q =
             same-call (putOn f) (Put f) []
-            (λ fs h. put-means (ours .slots) t w (roomOf ours (length b)) fs (may fs h) (omega arith) (opened-kept ours b fs h .sound) f [] low u
-            (omega (arith, weighed fs h)))
+            (λ fs h. put-means (layoutIn b .slots) t w (roomIn b) fs (may fs (openedFor-opened Edit b fs h)) (omega (arith, edit-slots b fs h))
+            (opened-kept (layoutIn b) b fs (openedFor-opened Edit b fs h) .sound) f [] low u (omega (arith, weighed fs (openedFor-opened Edit b fs h))))
 
-        pub put-away : quotaOf t w < r → (x : Answer) → x ≡ unless NoRoom (opened ours b) → Gives ours (sideOn (ours .slots) t w (Put f)) [] b x [] b
+        pub put-away : quotaOf t w < r → (x : Answer) → x ≡ behind (verdict (openedFor Edit b)) NoRoom → Gives Edit (sideOn (layoutIn b .slots) t w (Put f)) [] b x [] b
         put-away q =
             away (Put f) [] NoRoom
-            (λ fs h. put-full (ours .slots) t w (roomOf ours (length b)) fs (may fs h) f [] low u (omega (arith, weighed fs h)))
+            (λ fs h. put-full (layoutIn b .slots) t w (roomIn b) fs (may fs (openedFor-opened Edit b fs h)) f [] low u
+            (omega (arith, weighed fs (openedFor-opened Edit b fs h))))
 
 -- a setting's frame is short
 pub setting-short : (f : List ℕ) (s : ℕ) → s ≡ slotOf f → s < settings → length f ≤ 255
@@ -196,66 +239,74 @@ pub tells-same : (p q : Outcome) (a : Answer) (y : List ℕ) → p ≡ q → Tel
 tells-same p q a y e h = (h .0 ∙ ap (λ (x : Outcome). x .answer) e, h .1 ∙ ap (λ (x : Outcome). x .output) e)
 
 -- the code's test of 18, by the slot that the call names
-pub foreign-named : (t : OwnerTable) (w s : ℕ) (r x : Bool) → r ≡ foreign t w s → r ≡ x → (c : Request) → s ≡ named c → barred t w c ≡ x
+pub foreign-named : (t : OwnerTable) (w s : ℕ) (r x : Bool) → r ≡ foreign t w s → r ≡ x → (c : Request) → s ≡ named t c → barred t w c ≡ x
 unfolding barred
 foreign-named t w s r x g h c e = ap (foreign t w) (sym e) ∙ sym g ∙ h
 
 -- ---- clear
 
-module _ (l : Layout) (n : ℕ) (low : start (l .slots) ≤ n) (high : n ≤ longest) where
+module _ (n : ℕ) (low : start (ours .slots) ≤ n) (high : n ≤ longest) where
   -- the book's removals, one by one on its bytes, leave the image of what they leave of its frames
-  emptied-image : (q : ℕ → Bool) (c k : ℕ) (fs : List (List ℕ)) → Kept (l .slots) (roomOf l n) fs
-      → emptiedBytes l q c k (image l n fs) ≡ image l n (emptied q c k fs)
+  emptied-image : (q : ℕ → Bool) (c k : ℕ) (fs : List (List ℕ)) → Kept (ours .slots) (roomOf ours n) fs
+      → emptiedBytes q c k (image ours n fs) ≡ image ours n (emptied q c k fs)
   unfolding emptied emptiedBytes removeOn
   emptied-image q zero k fs K = refl
   emptied-image q (suc c) k fs K = go (emptied-image q c (k + 1)) (q (slotFor k))
     where
-      go : ((gs : List (List ℕ)) → Kept (l .slots) (roomOf l n) gs → emptiedBytes l q c (k + 1) (image l n gs) ≡ image l n (emptied q c (k + 1) gs))
+      go : ((gs : List (List ℕ)) → Kept (ours .slots) (roomOf ours n) gs → emptiedBytes q c (k + 1) (image ours n gs) ≡ image ours n (emptied q c (k + 1) gs))
           → (x : Bool)
-          → emptiedBytes l q c (k + 1) (cond x (call l (removeOn k) [] (image l n fs) .bytes) (image l n fs))
-          ≡ image l n (emptied q c (k + 1) (cond x (removeOn k [] 0 fs .frames) fs))
+          → emptiedBytes q c (k + 1) (cond x (callFor Edit (removeOn k) [] (image ours n fs) .bytes) (image ours n fs))
+          ≡ image ours n (emptied q c (k + 1) (cond x (removeOn k [] 0 fs .frames) fs))
       go ih true =
-          rw (call-image l n low high (removeOn k) [] fs K) (ih (removeOn k [] (roomOf l n) fs .frames) (remove-kept (l .slots) (roomOf l n) fs K [] k))
+          rw (for-image n low high fs K Edit (removeOn k) [])
+          (ih (removeOn k [] (roomOf ours n) fs .frames) (remove-kept (ours .slots) (roomOf ours n) fs K [] k))
       go ih false = ih fs K
 
-module _ (t : OwnerTable) (w : ℕ) (b : List ℕ) (B : Bytes b) (O : Open t w b) where
-  pub clear-call : (y : List ℕ) → y ≡ emptiedBytes ours (owns (t .owners) w) kinds 1 b → Permits (sideCall ours t w Clear [] b) (Done 0) y
-  unfolding call barred clearOn
-  clear-call y e = (
-    rw (O .opens, cleared) refl,
-    e
-        ∙ ap (emptiedBytes ours (owns (t .owners) w) kinds 1) (opened-bytes ours b (O .frames) B (O .opens))
-        ∙ emptied-image ours (length b) (R .small) (R .big) (owns (t .owners) w) kinds 1 (O .frames) K
+module _ (t : OwnerTable) (w : ℕ) (b : List ℕ) (B : Bytes b) (O : Open t w b) (e : openedFor Edit b ≡ holds (O .frames)) where
+  pub clear-call : (y : List ℕ) → y ≡ emptiedBytes (owns (t .owners) w) kinds 1 b → Permits (sideCall t w Clear [] b) (Done 0) y
+  unfolding callFor barred clearOn
+  clear-call y q = (
+    rw (e, cleared) refl,
+    q
+        ∙ ap (emptiedBytes (owns (t .owners) w) kinds 1) (opened-bytes ours b (O .frames) B opens)
+        ∙ emptied-image (length b) (R .small) (R .big) (owns (t .owners) w) kinds 1 (O .frames) K
         ∙ ap (image ours (length b)) (emptied-rest t w (O .frames) (K .sound))
-        ∙ sym (rw (O .opens, cleared) refl),
+        ∙ ap (λ (l : Layout). image l (length b) (restOf t w (O .frames))) (sym own)
+        ∙ sym (rw (e, cleared) refl),
   )
     where
+      opens : opened ours b ≡ holds (O .frames)
+      opens = edit-opened b (O .frames) e
+
+      own : layoutIn b ≡ ours
+      own = edit-serves b 0 (sym (ap verdict e)) .layout
+
       K : Kept (ours .slots) (roomOf ours (length b)) (O .frames)
-      K = opened-kept ours b (O .frames) (O .opens)
+      K = opened-kept ours b (O .frames) opens
 
       R : Reads ours b (O .frames)
-      R = judge-reads ours b (O .frames) (opened-judge ours b (O .frames) (O .opens))
+      R = judge-reads ours b (O .frames) (opened-judge ours b (O .frames) opens)
 
-      cleared : sideOn (ours .slots) t w Clear [] (roomOf ours (length b)) (O .frames) ≡ become [] (restOf t w (O .frames))
-      cleared = side-step (ours .slots) t w (roomOf ours (length b)) (O .frames) (O .may) Clear [] refl
+      cleared : sideOn (layoutIn b .slots) t w Clear [] (roomIn b) (O .frames) ≡ become [] (restOf t w (O .frames))
+      cleared = side-step (layoutIn b .slots) t w (roomIn b) (O .frames) (O .may) Clear [] refl
 
 -- what the header does not have is not removed
 module _ (k : ℕ) (b : List ℕ) (B : Bytes b) where
-  pub remove-absent : offsetAt b (slotFor k) ≡ 0 → call ours (removeOn k) [] b .bytes ≡ b
-  unfolding call removeOn
-  remove-absent z = go (opened ours b) refl
+  pub remove-absent : offsetAt b (slotFor k) ≡ 0 → callFor Edit (removeOn k) [] b .bytes ≡ b
+  unfolding callFor removeOn
+  remove-absent z = go (openedFor Edit b) refl
     where
-      go : (q : Contents) → opened ours b ≡ q → onContents ours (removeOn k) [] b q .bytes ≡ b
+      go : (q : Contents) → openedFor Edit b ≡ q → onContents (layoutIn b) (removeOn k) [] b q .bytes ≡ b
       go (refused x) h = refl
-      go (holds fs) h = by (ltb (slotFor k) settings) refl ∙ sym (opened-bytes ours b fs B h)
+      go (holds fs) h = by (ltb (slotFor k) settings) refl ∙ sym (opened-bytes (layoutIn b) b fs B (openedFor-opened Edit b fs h))
         where
           by : (x : Bool) → ltb (slotFor k) settings ≡ x
-              → image ours (length b) (cond {A = Turn} x (cond (held (slotFor k) fs) (become [] (without (slotFor k) fs)) (refuse NotHeld [] fs))
+              → image (layoutIn b) (length b) (cond {A = Turn} x (cond (held (slotFor k) fs) (become [] (without (slotFor k) fs)) (refuse NotHeld [] fs))
               (refuse NotAKind [] fs) .frames)
-              ≡ image ours (length b) fs
+              ≡ image (layoutIn b) (length b) fs
           by true e =
               rw (
-                sym (present-held ours b fs (opened-judge ours b fs h) (slotFor k) (omega (arith, ltb-true (slotFor k) settings e))),
+                sym (present-held ours b fs (opened-judge ours b fs (edit-opened b fs h)) (slotFor k) (omega (arith, ltb-true (slotFor k) settings e))),
                 eq-eqb
                     (offsetAt b (slotFor k)) 0 z,
               )
@@ -263,13 +314,13 @@ module _ (k : ℕ) (b : List ℕ) (B : Bytes b) where
 
 -- one kind less to take out
 pub emptied-on : (q : ℕ → Bool) (k : ℕ) (b : List ℕ) → k ≤ kinds
-    → emptiedBytes ours q (kinds + 1 - k) k b ≡ emptiedBytes ours q (kinds + 1 - (k + 1)) (k + 1) (cond (q (slotFor k)) (call ours (removeOn k) [] b .bytes) b)
+    → emptiedBytes q (kinds + 1 - k) k b ≡ emptiedBytes q (kinds + 1 - (k + 1)) (k + 1) (cond (q (slotFor k)) (callFor Edit (removeOn k) [] b .bytes) b)
 unfolding emptiedBytes
-emptied-on q k b h = ap (λ (n : ℕ). emptiedBytes ours q n k b) (minus-step (kinds + 1) k (omega arith))
+emptied-on q k b h = ap (λ (n : ℕ). emptiedBytes q n k b) (minus-step (kinds + 1) k (omega arith))
 
-pub emptied-end : (q : ℕ → Bool) (k : ℕ) (b : List ℕ) → kinds < k → emptiedBytes ours q (kinds + 1 - k) k b ≡ b
+pub emptied-end : (q : ℕ → Bool) (k : ℕ) (b : List ℕ) → kinds < k → emptiedBytes q (kinds + 1 - k) k b ≡ b
 unfolding emptiedBytes
-emptied-end q k b h = ap (λ (n : ℕ). emptiedBytes ours q n k b) (minus-end (kinds + 1) k (omega arith))
+emptied-end q k b h = ap (λ (n : ℕ). emptiedBytes q n k b) (minus-end (kinds + 1) k (omega arith))
 
 -- ---- replay
 
@@ -284,58 +335,23 @@ tell-apart x o fs gs = go (leb (length x) (length o))
     go true = (refl, refl)
     go false = (refl, refl)
 
--- what the whole replay told of a book
-pub record Replayed (b out : List ℕ) (n : ℕ) : Type 0 where
-  pub frames : List (List ℕ)
-  pub opens : opened ours b ≡ holds frames
-  pub reel : take (n - 0) out ≡ reelOf frames
-  pub fits : n ≤ length out
-
-module _ (b o : List ℕ) (long : longestReel ≤ length o) where
-  -- the replay into a buffer for every reel is refused only as the book is
-  replayed : (fs : List (List ℕ)) → opened ours b ≡ holds fs
-      → replayOn o (roomOf ours (length b)) fs
-      ≡ record { answer = Done (length (reelOf fs)); output = reelOf fs ++ drop (length (reelOf fs)) o; frames = fs }
-  unfolding replayOn
-  replayed fs h = rw (le-leb (length (reelOf fs)) (length o) (omega (arith, replay-most ours b fs h)))
-
-  pub replay-away : (t : OwnerTable) (w : ℕ) (out : List ℕ) (a : Answer) (x : Refusal) → a ≡ call ours replayOn o b .answer → a ≡ Refused x
-      → Gives ours (sideOn (ours .slots) t w Replay) out b a out b
-  unfolding call
-  replay-away t w out a x e z = go (opened ours b) refl e
-    where
-      go : (q : Contents) → opened ours b ≡ q → a ≡ onContents ours replayOn o b q .answer → Gives ours (sideOn (ours .slots) t w Replay) out b a out b
-      go (refused y) h r = turned-away ours (sideOn (ours .slots) t w Replay) out b a y (r ∙ ap verdict (sym h)) r
-      go (holds fs) h r = absurd (done-refused (length (reelOf fs)) x (sym (r ∙ rw (replayed fs h) refl) ∙ z))
-
-  pub replay-told : (a : Answer) (n : ℕ) (out : List ℕ) → a ≡ call ours replayOn o b .answer → out ≡ call ours replayOn o b .output → a ≡ Done n
-      → Replayed b out n
-  unfolding call
-  replay-told a n out e f z = go (opened ours b) refl e f
-    where
-      go : (q : Contents) → opened ours b ≡ q → a ≡ onContents ours replayOn o b q .answer → out ≡ onContents ours replayOn o b q .output → Replayed b out n
-      go (refused y) h r s = absurd (done-refused n y (sym z ∙ r))
-      go (holds fs) h r s =
-          let u : Done (length (reelOf fs)) ≡ Done n = sym (r ∙ rw (replayed fs h) refl) ∙ z in
-          let m : n ≡ length (reelOf fs) = cc in
-          let k : n - 0 ≡ length (reelOf fs) = omega arith in
-          let g : out ≡ reelOf fs ++ drop (length (reelOf fs)) o = s ∙ rw (replayed fs h) refl in
-          record {
-            frames = fs;
-            opens = h;
-            reel = ap₂ (λ (i : ℕ) (x : List ℕ). take i x) k g ∙ take-append-seam (reelOf fs) (drop (length (reelOf fs)) o);
-            fits = omega (arith, ap length g, length-append (reelOf fs) (drop (length (reelOf fs)) o));
-          }
+-- the replay into a buffer for every reel is refused only as the book is
+pub replay-away : (b o : List ℕ) → longestReel ≤ length o → (t : OwnerTable) (w : ℕ) (out : List ℕ) (a : Answer) (x : Refusal)
+    → a ≡ callFor Read replayOn o b .answer → a ≡ Refused x → Gives Read (sideOn (layoutIn b .slots) t w Replay) out b a out b
+replay-away b o long t w out a x e z =
+    let k = turned-off (sideOn (layoutIn b .slots) t w Replay) out b Read a x (z ∙ sym (ap verdict (replay-refused b o long a x e z))) z in
+    record { answer = k .0; output = k .1; bytes = k .2 }
 
 -- what is picked of it is the side's replay
-pub replay-call : (t : OwnerTable) (w : ℕ) (b : List ℕ) (O : Open t w b) (o reel : List ℕ) (n : ℕ) → take (n - 0) reel ≡ reelOf (O .frames)
-    → (a : Answer) (y : List ℕ) → Retold (picked (owns (t .owners) w) (take (n - 0) reel)) o a y → Tells (sideCall ours t w Replay o b) a y
-unfolding call barred replayOn picked
-replay-call t w b O o reel n r a y g =
+pub replay-call : (t : OwnerTable) (w : ℕ) (b : List ℕ) (O : Open t w b) → openedFor Read b ≡ holds (O .frames) → (o reel : List ℕ) (n : ℕ)
+    → take (n - 0) reel ≡ reelOf (O .frames) → (a : Answer) (y : List ℕ) → Retold (picked (owns (t .owners) w) (take (n - 0) reel)) o a y
+    → Tells (sideCall t w Replay o b) a y
+unfolding callFor barred replayOn picked
+replay-call t w b O f o reel n r a y g =
     let part : picked (owns (t .owners) w) (take (n - 0) reel) ≡ reelOf (partOf t w (O .frames)) =
     ap (picked (owns (t .owners) w)) r ∙ ap (λ (u : Unreeled). reelOf (chosen (owns (t .owners) w) (u .frames))) (reel-whole (O .frames)) in
-    let e = side-step (ours .slots) t w (roomOf ours (length b)) (O .frames) (O .may) Replay o refl in
+    let e = side-step (layoutIn b .slots) t w (roomIn b) (O .frames) (O .may) Replay o refl in
     let k = tell-apart (reelOf (partOf t w (O .frames))) o (partOf t w (O .frames)) [] in (
-      g .0 ∙ ap (λ (x : List ℕ). tell x o [] .answer) part ∙ sym (k .0) ∙ sym (rw (O .opens, e) refl),
-      g .1 ∙ ap (λ (x : List ℕ). tell x o [] .output) part ∙ sym (k .1) ∙ sym (rw (O .opens, e) refl),
+      g .0 ∙ ap (λ (x : List ℕ). tell x o [] .answer) part ∙ sym (k .0) ∙ sym (rw (f, e) refl),
+      g .1 ∙ ap (λ (x : List ℕ). tell x o [] .output) part ∙ sym (k .1) ∙ sym (rw (f, e) refl),
     )

@@ -16,10 +16,11 @@ use Rattle.settings.specs.Settings.{slotFor, slotOf}
 use Rattle.contents.specs.Frames.{flat, held}
 use Rattle.forms.specs.Forms.{other, otherIn}
 use Rattle.reel.specs.Reel.{reelOf}
-use Rattle.owners.specs.Owners.{OwnerTable, eachSide, isSide, joined, joinedIn, ownerTable, owns, tableRight}
+use Rattle.owners.specs.Owners.{OwnerTable, allFirst, eachSide, isSide, joined, joinedIn, ownerTable, owns, spareFirst, tableRight}
 use Rattle.book.specs.declared.Answer.{Answer}
 use Rattle.book.specs.declared.Answer.the-variants.{Done, Refused}
 use Rattle.book.specs.Plain.{askOn, clearOn, frameOf, placed, putOn, removeOn, replayOn, seat, swapIn, without}
+use Rattle.book.specs.Book.{ours}
 use Rattle.book.specs.History.{turn}
 use Rattle.book.specs.History as whole
 use Rattle.sides.specs.Parts.{chosen, withinQuotas}
@@ -70,7 +71,7 @@ step e a gs = record { event = e; answer = a; frames = gs }
 -- each step gives what it says, on the list that the one before left
 abbrev Story : List Step → List (List ℕ) → Type 0
 Story [] fs = Unit
-Story (s ∷ ss) fs = (told (jointly 29 11 table (s .event) fs .answer) ≡ s .answer) × (jointly 29 11 table (s .event) fs .frames
+Story (s ∷ ss) fs = (told (jointly (ours .slots) 11 table (s .event) fs .answer) ≡ s .answer) × (jointly (ours .slots) 11 table (s .event) fs .frames
     ≡ s .frames) × Story ss (s .frames)
 
 abbrev filled : List (List ℕ)
@@ -109,15 +110,16 @@ story : Story (
     ∷ step (by 2 (Put address) []) (done 0) (installed ++ (address ∷ []))
     ∷ []
     ) []
-unfolding table syncword timeout timing address whitening path turn sideOn mayCall ownTurn barred tableRight isSide eachSide joined joinedIn owns chosen
-    withinQuotas putOn removeOn askOn replayOn clearOn placed seat held frameOf swapIn without flat reelOf other otherIn slotOf slotFor decode sought answered
-    judged known stray lacking find takes isIn lists rxBwCodes narrowOf narrowsOf tab tabFrom byteOf maskOf reads part mask read readTo
+unfolding table syncword timeout timing address whitening path turn sideOn mayCall ownTurn barred tableRight isSide spareFirst allFirst eachSide joined
+    joinedIn owns chosen withinQuotas putOn removeOn askOn replayOn clearOn placed seat held frameOf swapIn without flat reelOf other otherIn slotOf
+    slotFor decode sought answered judged known stray lacking find takes isIn lists rxBwCodes narrowOf narrowsOf tab tabFrom byteOf maskOf reads part mask
+    read readTo
 story = (refl, refl, (refl, refl, (refl, refl, (refl, refl, (refl, refl, (refl, refl, (refl, refl, (refl, refl, (refl, refl, (refl, refl, (refl, refl, (refl, refl, (refl, refl, (refl, refl, (refl, refl, (refl, refl, (refl, refl, (refl, refl, (refl, refl, (refl, refl, (refl, refl, (refl, refl, tt))))))))))))))))))))))
 
 -- and a side's replay has its own frames alone
-replays : (jointly 29 11 table (by 1 Replay (replicate 10 0)) filled .output ≡ 3 ∷ syncword ++ (4 ∷ timeout ++ (0 ∷ [])))
-    × (jointly 29 11 table (by 2 Replay (replicate 5 0)) filled .output ≡ 4 ∷ address)
-unfolding table syncword timeout address sideOn mayCall ownTurn barred tableRight isSide eachSide joined joinedIn owns chosen withinQuotas replayOn flat reelOf
-    slotOf slotFor decode sought answered judged known stray lacking find takes isIn lists rxBwCodes narrowOf narrowsOf tab tabFrom byteOf maskOf reads part
-    mask read readTo
+replays : (jointly (ours .slots) 11 table (by 1 Replay (replicate 10 0)) filled .output ≡ 3 ∷ syncword ++ (4 ∷ timeout ++ (0 ∷ [])))
+    × (jointly (ours .slots) 11 table (by 2 Replay (replicate 5 0)) filled .output ≡ 4 ∷ address)
+unfolding table syncword timeout address sideOn mayCall ownTurn barred tableRight isSide spareFirst allFirst eachSide joined joinedIn owns chosen
+    withinQuotas replayOn flat reelOf slotOf slotFor decode sought answered judged known stray lacking find takes isIn lists rxBwCodes narrowOf narrowsOf
+    tab tabFrom byteOf maskOf reads part mask read readTo
 replays = (refl, refl)

@@ -5,6 +5,7 @@ use mathlib.Core.Path.{ap, ap₂, refl, subst, sym, _∙_, _≡_}
 use mathlib.Core.Bool.{Bool, cond, false, true, _&&_}
 use mathlib.Core.List.{List, [], _∷_}
 use Prim.Native.Nat.{ℕ, _≤_}
+use native.Mathlib.Omega.{arith}
 use borrow.Author.Tests.{eqb-false, eqb-true}
 use lib.Dec.{eqb, leb, ltb}
 use lib.ListN.{length}
@@ -20,14 +21,15 @@ use Rattle.owners.proofs.Laws.{owns-other, table-right}
 use Rattle.book.specs.declared.Answer.{Answer}
 use Rattle.book.specs.declared.Answer.the-variants.{Done, Refused}
 use Rattle.book.specs.Plain.{Turn, askOn, become, clearOn, frameOf, placed, putOn, refuse, removeOn, replayOn, tell, without}
-use Rattle.book.specs.Book.{made}
+use Rattle.book.specs.Book.{callFor, made, ours}
 use Rattle.book.specs.History.{BytesRun, Call, Heard, onBytes, onList, turn}
 use Rattle.book.specs.History as whole
 use Rattle.book.proofs.Calls.{make-fits}
 use Rattle.book.proofs.Kept.{Kept, empty-kept, tell-frames}
-use Rattle.book.proofs.History.{after-image, call-image, runs, shown}
+use Rattle.book.proofs.History.{after-image, for-image, runs, shown}
+use Rattle.book.proofs.Versions.{layout-image}
 use Rattle.sides.specs.Parts.{chosen, partOf, withinQuotas}
-use Rattle.sides.specs.Calls.{amid, edited, mayCall, ownTurn, sideOn}
+use Rattle.sides.specs.Calls.{amid, edited, mayCall, ownTurn, sideOn, wantsOf}
 use Rattle.sides.specs.Histories.{Event, Side, SideCall, Whole, afterEvent, answered, byTwoLists, heardOf, jointly, listAfter, ownAfter, said, sharedBy}
 use Rattle.sides.proofs.Parts.{chosen-placed, chosen-placed-out, chosen-without, chosen-without-out}
 use Rattle.sides.proofs.Views.{side-apart, side-own}
@@ -36,24 +38,27 @@ use Rattle.sides.proofs.Kept.{event-kept}
 
 -- ---- on bytes
 
-module _ (l : Layout) (big : settings ≤ l .slots) (t : OwnerTable) where
-  event-image : (n : ℕ) (low : start (l .slots) ≤ n) (high : n ≤ longest) (e : Event) (fs : List (List ℕ)) → Kept (l .slots) (roomOf l n) fs
-      → afterEvent l t e (image l n fs) ≡ shown l n low high (jointly (l .slots) (roomOf l n) t e fs)
-  event-image n low high (Side c) fs K = call-image l n low high (sideOn (l .slots) t (c .who) (c .what)) (c .output) fs K
-  event-image n low high (Whole c) fs K = after-image l n low high c fs K
+module _ (t : OwnerTable) where
+  event-image : (n : ℕ) (low : start (ours .slots) ≤ n) (high : n ≤ longest) (e : Event) (fs : List (List ℕ)) → Kept (ours .slots) (roomOf ours n) fs
+      → afterEvent t e (image ours n fs) ≡ shown ours n low high (jointly (ours .slots) (roomOf ours n) t e fs)
+  event-image n low high (Side c) fs K =
+      ap (λ (l : Layout). callFor (wantsOf (c .what)) (sideOn (l .slots) t (c .who) (c .what)) (c .output) (image ours n fs)) (layout-image n fs)
+      ∙ for-image n low high fs K (wantsOf (c .what)) (sideOn (ours .slots) t (c .who) (c .what)) (c .output)
+  event-image n low high (Whole c) fs K = after-image n low high c fs K
 
   -- THE HISTORY OF A SHARED BOOK: after every list of events the bytes are the image of the joint list, and what was heard is what the joint list
   -- gives.
-  pub shared-history : (b : List ℕ) → start (l .slots) ≤ length b → length b ≤ longest → (es : List Event)
-      → onBytes (afterEvent l t) es (made l b .bytes)
+  pub shared-history : (b : List ℕ) → start (ours .slots) ≤ length b → length b ≤ longest → (es : List Event)
+      → onBytes (afterEvent t) es (made ours b .bytes)
       ≡ record {
-        heard = onList (jointly (l .slots) (roomOf l (length b)) t) es [] .heard;
-        bytes = image l (length b) (onList (jointly (l .slots) (roomOf l (length b)) t) es [] .frames);
+        heard = onList (jointly (ours .slots) (roomOf ours (length b)) t) es [] .heard;
+        bytes = image ours (length b) (onList (jointly (ours .slots) (roomOf ours (length b)) t) es [] .frames);
       }
   shared-history b low high es =
-      ap (onBytes (afterEvent l t) es) (sym (make-fits l b (image l (length b) []) low high refl .1))
-      ∙ runs (afterEvent l t) (jointly (l .slots) (roomOf l (length b)) t) (image l (length b)) (Kept (l .slots) (roomOf l (length b)))
-      (event-image (length b) low high) (event-kept (l .slots) (roomOf l (length b)) big t) es [] (empty-kept (l .slots) (roomOf l (length b)))
+      ap (onBytes (afterEvent t) es) (sym (make-fits ours b (image ours (length b) []) low high refl .1))
+      ∙ runs (afterEvent t) (jointly (ours .slots) (roomOf ours (length b)) t) (image ours (length b)) (Kept (ours .slots) (roomOf ours (length b)))
+      (event-image (length b) low high) (event-kept (ours .slots) (roomOf ours (length b)) (omega arith) t) es []
+      (empty-kept (ours .slots) (roomOf ours (length b)))
 
 -- ---- on two lists
 
@@ -201,12 +206,12 @@ module _ (m room : ℕ) (t : OwnerTable) where
 
 -- THE HISTORY OF EACH SIDE: on a fresh book, whatever both sides and whole-book calls do, a side's every answer and output is that of its own plain
 -- list, in its own quota, while neither list exceeds its quota, and 17 while one does.
-pub side-history : (l : Layout) (big : settings ≤ l .slots) (t : OwnerTable) (b : List ℕ) → start (l .slots) ≤ length b → length b ≤ longest → (es : List Event)
-    → onBytes (afterEvent l t) es (made l b .bytes) .heard
-    ≡ byTwoLists (l .slots) (roomOf l (length b)) t es (onBytes (afterEvent l t) es (made l b .bytes) .heard) [] []
-side-history l big t b low high es =
-    let e : onBytes (afterEvent l t) es (made l b .bytes) .heard ≡ onList (jointly (l .slots) (roomOf l (length b)) t) es [] .heard =
-    ap (λ (r : BytesRun). r .heard) (shared-history l big t b low high es) in
+pub side-history : (t : OwnerTable) (b : List ℕ) → start (ours .slots) ≤ length b → length b ≤ longest → (es : List Event)
+    → onBytes (afterEvent t) es (made ours b .bytes) .heard
+    ≡ byTwoLists (ours .slots) (roomOf ours (length b)) t es (onBytes (afterEvent t) es (made ours b .bytes) .heard) [] []
+side-history t b low high es =
+    let e : onBytes (afterEvent t) es (made ours b .bytes) .heard ≡ onList (jointly (ours .slots) (roomOf ours (length b)) t) es [] .heard =
+    ap (λ (r : BytesRun). r .heard) (shared-history t b low high es) in
     e
-    ∙ sym (two-lists (l .slots) (roomOf l (length b)) t es)
-    ∙ ap (λ (hs : List Heard). byTwoLists (l .slots) (roomOf l (length b)) t es hs [] []) (sym e)
+    ∙ sym (two-lists (ours .slots) (roomOf ours (length b)) t es)
+    ∙ ap (λ (hs : List Heard). byTwoLists (ours .slots) (roomOf ours (length b)) t es hs [] []) (sym e)

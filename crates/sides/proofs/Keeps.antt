@@ -1,4 +1,4 @@
--- A side's call that is refused leaves the book and the output as they were, for every layout, table, call and bytes (`side-keeps`).
+-- A side's call that is refused leaves the book and the output as they were, for every table, call and bytes (`side-keeps`).
 -- Assumes nothing.
 use mathlib.Core.Path.{ap, refl, _≡_}
 use mathlib.Core.Bool.{Bool, cond, false, true}
@@ -6,7 +6,7 @@ use mathlib.Core.List.{List}
 use Prim.Native.Nat.{ℕ}
 use Rattle.refusal.specs.declared.Refusal.{Refusal}
 use Rattle.refusal.specs.declared.Refusal.the-variants.{OtherSide, OwnersWrong}
-use Rattle.contents.specs.Contents.{Layout}
+use Rattle.book.specs.Book.{layoutIn}
 use Rattle.contents.proofs.Judged.{Bytes}
 use Rattle.owners.specs.Owners.{OwnerTable, quotaOf}
 use Rattle.book.specs.declared.Answer.{Answer}
@@ -14,7 +14,8 @@ use Rattle.book.specs.declared.Answer.the-variants.{Refused}
 use Rattle.book.specs.Plain.{refuse}
 use Rattle.book.proofs.Keeps.{Keeps, ask-keeps, call-keeps, clear-keeps, put-keeps, remove-keeps, replay-keeps}
 use Rattle.sides.specs.Parts.{partOf}
-use Rattle.sides.specs.Calls.{Ask, Clear, Put, Remove, Replay, Request, amid, barred, edited, ifAccepted, mayCall, ownTurn, sideCall, sideOn, stepOf}
+use Rattle.sides.specs.Calls.{Ask, Clear, Put, Remove, Replay, Request, amid, barred, edited, ifAccepted, mayCall, ownTurn, sideCall, sideOn}
+use Rattle.sides.specs.Calls.{stepOf, wantsOf}
 
 step-keeps : (c : Request) (o : List ℕ) (room : ℕ) (gs : List (List ℕ)) → Keeps (stepOf c o room gs) o gs
 step-keeps (Put f) o room gs = put-keeps o room gs f
@@ -40,6 +41,7 @@ turn-keeps m t w c o room fs = go (mayCall m t w room (partOf t 1 fs) (partOf t 
     go false x e = (refl, refl)
 
 -- WHAT IS REFUSED ALTERS NOTHING, of a side's calls too
-pub side-keeps : (l : Layout) (t : OwnerTable) (w : ℕ) (c : Request) (o b : List ℕ) → Bytes b → (x : Refusal) → sideCall l t w c o b .answer ≡ Refused x
-    → (sideCall l t w c o b .output ≡ o) × (sideCall l t w c o b .bytes ≡ b)
-side-keeps l t w c o b B = call-keeps l (sideOn (l .slots) t w c) o b B (λ room fs. turn-keeps (l .slots) t w c o room fs)
+pub side-keeps : (t : OwnerTable) (w : ℕ) (c : Request) (o b : List ℕ) → Bytes b → (x : Refusal) → sideCall t w c o b .answer ≡ Refused x
+    → (sideCall t w c o b .output ≡ o) × (sideCall t w c o b .bytes ≡ b)
+side-keeps t w c o b B =
+    call-keeps (wantsOf c) (sideOn (layoutIn b .slots) t w c) o b B (λ room fs. turn-keeps (layoutIn b .slots) t w c o room fs)

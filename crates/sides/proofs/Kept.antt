@@ -55,7 +55,7 @@ module _ (m room : ℕ) (big : settings ≤ m) (t : OwnerTable) (fs : List (List
     unfolding clearOn replayOn
     step-stands (Put f) u = put-stands f u
     step-stands (Remove k) u = subst Stands (sym (remove-means m t w room fs may k o u)) (remove-kept m room fs K o k)
-    step-stands (Ask k) u = subst Stands (sym (ask-means m t w room fs may k o u)) (ask-kept m room fs K o k)
+    step-stands (Ask k) u = subst Stands (sym (ask-means m t w room fs may (K .within) k o u)) (ask-kept m room fs K o k)
     step-stands Clear u = subst Stands (sym (side-step m t w room fs may Clear o u)) (rest-kept (λ s. not (owns (t .owners) w s)))
     step-stands Replay u = subst Stands (sym (side-step m t w room fs may Replay o u)) (same (replayOn o (quotaOf t w) (partOf t w fs) .answer))
 

@@ -10,20 +10,22 @@ use borrow.Author.Tests.{eqb-true, le-leb, le-ltb, lt-leb, lt-ltb, ltb-false, ne
 use lib.Dec.{T, eqb, leb, ltb}
 use lib.ListN.{drop, length}
 use Rattle.refusal.specs.declared.Refusal.the-variants.{NoRoom, NotAKind, NotHeld, OtherSide, OutputShort, OwnersWrong}
-use Rattle.table.specs.Table.{kinds, settings}
+use Rattle.table.specs.Table.{action, kinds, settings}
 use Rattle.table.proofs.Below.{below, below-at}
 use Rattle.settings.specs.Settings.{slotFor, slotOf}
 use Rattle.contents.specs.Frames.{flat, held}
-use Rattle.contents.proofs.Shape.{Sound}
+use Rattle.contents.proofs.Shape.{Sound, Within}
+use Rattle.contents.proofs.Offsets.{within-held}
 use Rattle.owners.specs.Owners.{OwnerTable, isSide, owns, quotaOf, tableRight}
+use Rattle.owners.proofs.Laws.{table-right}
 use Rattle.settings.proofs.Settings.{both}
 use Rattle.book.specs.declared.Answer.the-variants.{Done}
 use Rattle.book.specs.Plain.{Turn, askOn, become, frameOf, placed, putOn, refuse, removeOn, tell, without}
 use Rattle.book.proofs.Placed.{placed-sound}
 use Rattle.sides.specs.Parts.{chosen, partOf, restOf, withinQuotas}
-use Rattle.sides.specs.Calls.{Ask, Put, Remove, Request, amid, barred, edited, mayCall, ownTurn, sideOn, stepOf}
+use Rattle.sides.specs.Calls.{Ask, Put, Remove, Request, amid, barred, edited, foreign, mayCall, ownTurn, sideOn, stepOf}
 use Rattle.sides.specs.Means.{emptied}
-use Rattle.sides.proofs.Parts.{chosen-same, frame-chosen, held-chosen, sound-chosen}
+use Rattle.sides.proofs.Parts.{chosen-absent, chosen-same, frame-chosen, held-chosen, sound-chosen}
 use Rattle.sides.proofs.Views.{own-slot, quotas-fit}
 use Rattle.sides.proofs.Quotas.{side-within}
 
@@ -88,9 +90,9 @@ module _ (m : ℕ) (t : OwnerTable) (w room : ℕ) (fs : List (List ℕ)) (may :
       go true = refl
       go false = refl
 
-  pub ask-means : (k : ℕ) (o : List ℕ) → barred t w (Ask k) ≡ false → sideOn m t w (Ask k) o room fs ≡ askOn k o room fs
+  pub ask-means : Within m fs → (k : ℕ) (o : List ℕ) → barred t w (Ask k) ≡ false → sideOn m t w (Ask k) o room fs ≡ askOn k o room fs
   unfolding askOn barred
-  ask-means k o u = side-step (Ask k) o u ∙ go (ltb (slotFor k) settings) refl
+  ask-means W k o u = side-step (Ask k) o u ∙ go (ltb (slotFor k) settings) refl
     where
       by : (y : Bool)
           → amid (cond y (tell (frameOf (slotFor k) fs) o (partOf t w fs)) (refuse NotHeld o (partOf t w fs))) fs fs
@@ -103,9 +105,21 @@ module _ (m : ℕ) (t : OwnerTable) (w room : ℕ) (fs : List (List ℕ)) (may :
           (refuse NotHeld o (partOf t w fs)))
           (refuse NotAKind o (partOf t w fs))) fs fs
           ≡ cond x (cond (held (slotFor k) fs) (tell (frameOf (slotFor k) fs) o fs) (refuse NotHeld o fs)) (refuse NotAKind o fs)
-      go true e =
-          let own : owns (t .owners) w (slotFor k) ≡ true = own-slot t w (slotFor k) u e in
-          rw (held-chosen (owns (t .owners) w) (slotFor k) own fs, frame-chosen (owns (t .owners) w) (slotFor k) own fs) (by (held (slotFor k) fs))
+      go true e = entry (ltb (slotFor k) (length (t .owners))) refl u
+        where
+          -- a slot that the table has an entry for is the side's; one that it has none for is not held
+          entry : (y : Bool) → ltb (slotFor k) (length (t .owners)) ≡ y → foreign t w (cond y (slotFor k) action) ≡ false
+              → amid (cond (held (slotFor k) (partOf t w fs)) (tell (frameOf (slotFor k) (partOf t w fs)) o (partOf t w fs))
+              (refuse NotHeld o (partOf t w fs))) fs fs
+              ≡ cond (held (slotFor k) fs) (tell (frameOf (slotFor k) fs) o fs) (refuse NotHeld o fs)
+          entry true q v =
+              let own : owns (t .owners) w (slotFor k) ≡ true = own-slot t w (slotFor k) v e in
+              rw (held-chosen (owns (t .owners) w) (slotFor k) own fs, frame-chosen (owns (t .owners) w) (slotFor k) own fs) (by (held (slotFor k) fs))
+          entry false q v =
+              let M = may-call m t w room fs may in
+              let n = table-right m room t (M .right) .entries in
+              let h : held (slotFor k) fs ≡ false = within-held m fs W (slotFor k) (omega (arith, ltb-false (slotFor k) (length (t .owners)) q)) in
+              rw (chosen-absent (owns (t .owners) w) (slotFor k) fs h, h)
       go false e = refl
 
   -- ---- put

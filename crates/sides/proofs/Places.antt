@@ -9,17 +9,17 @@ use native.Mathlib.Omega.{arith}
 use Rattle.refusal.specs.declared.Refusal.{Refusal}
 use Rattle.refusal.specs.declared.Refusal.the-variants.{OtherSide, OwnersWrong}
 use Rattle.refusal.specs.Numbers.{numberOf, placeOf}
-use Rattle.contents.specs.Contents.{Layout}
 use Rattle.contents.proofs.Places.{judge-own}
 use Rattle.owners.specs.Owners.{OwnerTable, quotaOf}
 use Rattle.book.specs.declared.Answer.the-variants.{Refused}
 use Rattle.book.specs.Plain.{refuse}
+use Rattle.book.specs.Book.{layoutIn}
 use Rattle.book.specs.History.{Call, after}
 use Rattle.codec.proofs.Places.{decode-own}
-use Rattle.book.proofs.Places.{Near, Says, Steps, after-says, ask-says, call-says, clear-says, opened-near}
-use Rattle.book.proofs.Places.{opened-says, put-says, remove-says, replay-says, steps-near}
+use Rattle.book.proofs.Places.{Near, Says, Steps, after-says, ask-says, call-says, clear-says, found-near}
+use Rattle.book.proofs.Places.{openedFor-says, put-says, remove-says, replay-says, steps-near}
 use Rattle.sides.specs.Parts.{partOf}
-use Rattle.sides.specs.Calls.{Ask, Clear, Put, Remove, Replay, Request, amid, barred, edited, mayCall, ownTurn, sideCall, sideOn, stepOf}
+use Rattle.sides.specs.Calls.{Ask, Clear, Put, Remove, Replay, Request, amid, barred, edited, mayCall, ownTurn, sideCall, sideOn, stepOf, wantsOf}
 
 module _ (P : Refusal → Type 0) (S : Steps P) where
   pub step-says : (c : Request) (o : List ℕ) (room : ℕ) (gs : List (List ℕ)) → Says P (stepOf c o room gs .answer)
@@ -41,12 +41,11 @@ module _ (P : Refusal → Type 0) (S : Steps P) where
         go true false = step-says c o (quotaOf t w) (partOf t w fs)
         go false u = wrong
 
-pub side-place : (l : Layout) (b : List ℕ) (t : OwnerTable) (w : ℕ) (c : Request) (o : List ℕ) (x : Refusal) → sideCall l t w c o b .answer ≡ Refused x
-    → placeOf x ≤ 12
-side-place l b t w c o x e =
+pub side-place : (b : List ℕ) (t : OwnerTable) (w : ℕ) (c : Request) (o : List ℕ) (x : Refusal) → sideCall t w c o b .answer ≡ Refused x → placeOf x ≤ 12
+side-place b t w c o x e =
     subst (Says Near) e
-    (call-says Near steps-near l b (opened-near l b) (omega arith) (sideOn (l .slots) t w c) o
-    (λ o room fs. side-says Near steps-near (omega arith) (omega arith) (l .slots) t w c o room fs))
+    (call-says Near steps-near b (found-near b) (omega arith) (wantsOf c) (sideOn (layoutIn b .slots) t w c) o
+    (λ o room fs. side-says Near steps-near (omega arith) (omega arith) (layoutIn b .slots) t w c o room fs))
 
 -- ---- the whole book
 
@@ -59,7 +58,7 @@ abbrev Own : Refusal → Type 0
 Own x = numberOf x ≤ 16
 
 -- A CALL OF THE WHOLE BOOK IS NEVER REFUSED BY 17 OR 18, whatever the bytes are
-pub whole-own : (l : Layout) (b : List ℕ) (c : Call) (x : Refusal) → after l c b .answer ≡ Refused x → numberOf x ≤ 16
-whole-own l b c x e =
+pub whole-own : (b : List ℕ) (c : Call) (x : Refusal) → after c b .answer ≡ Refused x → numberOf x ≤ 16
+whole-own b c x e =
     subst (Says Own) e
-    (after-says Own (steps-low 16 (omega arith)) l b (opened-says Own (omega arith) l b (λ y w. omega (arith, judge-own l b y w .1))) (omega arith) c)
+    (after-says Own (steps-low 16 (omega arith)) b (openedFor-says Own (omega arith) b (λ y w. omega (arith, judge-own (layoutIn b) b y w .1))) (omega arith) c)

@@ -6,7 +6,7 @@ use mathlib.Core.Bool.{Bool, cond, false, not, true, _&&_}
 use mathlib.Core.List.{List, _++_}
 use Prim.Native.Nat.{ℕ, _+_, _≤_}
 use native.Mathlib.Omega.{arith}
-use borrow.Author.Tests.{leb-true, not-false, not-true}
+use borrow.Author.Tests.{le-ltb, leb-true, not-false, not-true}
 use lib.Dec.{leb, ltb}
 use lib.ListN.{drop, length}
 use Rattle.refusal.specs.declared.Refusal.the-variants.{NoRoom, NotAKind, NotHeld, OtherSide, OutputShort, OwnersWrong}
@@ -70,6 +70,11 @@ module _ (t : OwnerTable) (w : ℕ) where
   -- a setting's slot that is not foreign is the side's
   pub own-slot : (s : ℕ) → foreign t w s ≡ false → ltb s settings ≡ true → owns (t .owners) w s ≡ true
   own-slot s h e = not-false (owns (t .owners) w s) (rw e at h)
+
+  -- a slot that the table has no entry for is nobody's: an ask for its kind is not barred
+  pub ask-nobody : (k : ℕ) → length (t .owners) ≤ slotFor k → barred t w (Ask k) ≡ false
+  unfolding barred
+  ask-nobody k h = rw (le-ltb (slotFor k) (length (t .owners)) h)
 
   -- the edit of all frames, seen by the side, is that of its own list
   module _ (whole : joined (t .owners) ≡ true) (o : List ℕ) (fs : List (List ℕ)) where

@@ -4,15 +4,15 @@ use Prim.Native.Nat.{ℕ}
 use mathlib.Core.Bool.{Bool, false, cond, not, _&&_}
 use mathlib.Core.List.{List}
 use lib.Dec.{ltb}
+use lib.ListN.{length}
 use Rattle.refusal.specs.declared.Refusal.the-variants.{OwnersWrong, OtherSide}
 use Rattle.table.specs.Table.{action, settings}
 use Rattle.settings.specs.Settings.{slotFor, slotOf}
-use Rattle.contents.specs.Contents.{Layout}
 use Rattle.owners.specs.Owners.{OwnerTable, isSide, owns, quotaOf, tableRight}
 use Rattle.book.specs.declared.Answer.{Answer}
 use Rattle.book.specs.declared.Answer.the-variants.{Done, Refused}
-use Rattle.book.specs.Plain.{Turn, refuse, placed, without, putOn, removeOn, askOn, clearOn, replayOn}
-use Rattle.book.specs.Book.{Outcome, call}
+use Rattle.book.specs.Plain.{Turn, askOn, clearOn, placed, putOn, refuse, removeOn, replayOn, without}
+use Rattle.book.specs.Book.{Edit, Outcome, Read, Use, callFor, layoutIn}
 use Rattle.sides.specs.Parts.{partOf, restOf, withinQuotas}
 
 -- what a side may ask for
@@ -33,13 +33,14 @@ stepOf (Ask k) o room gs = askOn k o room gs
 stepOf Clear o room gs = clearOn o room gs
 stepOf Replay o room gs = replayOn o room gs
 
--- the slot that a call names; the mark of an action where it names no setting
-abbrev pub named : Request → ℕ
-named (Put f) = slotOf f
-named (Remove k) = slotFor k
-named (Ask k) = slotFor k
-named Clear = action
-named Replay = action
+-- The slot that a call names; the mark of an action where it names no setting. An ask for a setting that the table has no entry for, since the
+-- book's version has no slot for it, names none: it is nobody's, and not held.
+abbrev pub named : OwnerTable → Request → ℕ
+named t (Put f) = slotOf f
+named t (Remove k) = slotFor k
+named t (Ask k) = cond (ltb (slotFor k) (length (t .owners))) (slotFor k) action
+named t Clear = action
+named t Replay = action
 
 -- whether a slot is a setting's and not the side's
 abbrev pub foreign : OwnerTable → ℕ → ℕ → Bool
@@ -47,7 +48,7 @@ foreign t w s = cond (ltb s settings) (not (owns (t .owners) w s)) false
 
 -- Whether a call is for a setting of the other side: table and call decide, whatever is held.
 unfoldable pub barred : OwnerTable → ℕ → Request → Bool
-barred t w c = foreign t w (named c)
+barred t w c = foreign t w (named t c)
 
 -- What a side's call does to its own list: the book's own step, with the side's quota as the room, unless the setting is the other side's.
 unfoldable pub ownTurn : OwnerTable → ℕ → Request → List ℕ → List (List ℕ) → Turn
@@ -80,6 +81,14 @@ unfoldable pub sideOn : ℕ → OwnerTable → ℕ → Request → List ℕ → 
 sideOn m t w c o room fs =
     cond (mayCall m t w room (partOf t 1 fs) (partOf t 2 fs)) (amid (ownTurn t w c o (partOf t w fs)) (edited t w c fs) fs) (refuse OwnersWrong o fs)
 
--- The same on a buffer's bytes, after the book's own refusals.
-abbrev pub sideCall : Layout → OwnerTable → ℕ → Request → List ℕ → List ℕ → Outcome
-sideCall l t w c o b = call l (sideOn (l .slots) t w c) o b
+-- what a side's call wants of a book
+abbrev pub wantsOf : Request → Use
+wantsOf (Put f) = Edit
+wantsOf (Remove k) = Edit
+wantsOf (Ask k) = Read
+wantsOf Clear = Edit
+wantsOf Replay = Read
+
+-- The same on a buffer's bytes, after the book's own refusals: the table has an entry for each slot of the book's version.
+abbrev pub sideCall : OwnerTable → ℕ → Request → List ℕ → List ℕ → Outcome
+sideCall t w c o b = callFor (wantsOf c) (sideOn (layoutIn b .slots) t w c) o b

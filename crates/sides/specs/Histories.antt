@@ -7,13 +7,12 @@ use mathlib.Core.List.{List, [], _∷_}
 use lib.Dec.{eqb}
 use Rattle.refusal.specs.declared.Refusal.the-variants.{OwnersWrong}
 use Rattle.settings.specs.Settings.{slotFor, slotOf}
-use Rattle.contents.specs.Contents.{Layout}
 use Rattle.owners.specs.Owners.{OwnerTable, isSide, owns, tableRight}
 use Rattle.book.specs.declared.Answer.{Answer}
 use Rattle.book.specs.declared.Answer.the-variants.{Done, Refused}
-use Rattle.book.specs.Plain.{Turn, refuse, placed, without}
+use Rattle.book.specs.Plain.{Turn, placed, refuse, without}
 use Rattle.book.specs.Book.{Outcome}
-use Rattle.book.specs.History.{Call, Heard, Make, Put, Remove, Ask, Clear, Replay, after, turn}
+use Rattle.book.specs.History.{Ask, Call, Clear, Heard, Make, Put, Remove, Replay, after, turn}
 use Rattle.sides.specs.Calls.{Request, mayCall, ownTurn, sideCall, sideOn}
 
 -- a side's call: who makes it, what is asked, and the output that is lent
@@ -30,9 +29,9 @@ abbrev pub by : ℕ → Request → List ℕ → Event
 by w c o = Side (record { who = w; what = c; output = o })
 
 -- What an event makes of bytes: the contract of each function says just this.
-abbrev pub afterEvent : Layout → OwnerTable → Event → List ℕ → Outcome
-afterEvent l t (Side c) b = sideCall l t (c .who) (c .what) (c .output) b
-afterEvent l t (Whole c) b = after l c b
+abbrev pub afterEvent : OwnerTable → Event → List ℕ → Outcome
+afterEvent t (Side c) b = sideCall t (c .who) (c .what) (c .output) b
+afterEvent t (Whole c) b = after c b
 
 -- A call of the whole book that is accepted does to a side's list what it does to the whole one, if it is for a setting of that side.
 abbrev pub shared : OwnerTable → ℕ → Call → List (List ℕ) → List (List ℕ)

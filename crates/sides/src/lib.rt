@@ -4,19 +4,19 @@
 ghost use mathlib.Core.Path.{_≡_};
 ghost use mathlib.Core.Bool.{cond, _&&_};
 ghost use mathlib.Core.List.{[]};
-ghost use Prim.Native.Nat.{_+_, _≤_};
-ghost use lib.Dec.{eqb};
+ghost use Prim.Native.Nat.{_*_, _+_, _-_, _<_, _≤_};
+ghost use lib.Dec.{eqb, ltb};
 ghost use lib.ListN.{length, take};
-ghost use Rattle.table.specs.Table.{kinds, settings};
+ghost use Rattle.table.specs.Table.{action, kinds, settings};
 ghost use Rattle.settings.specs.Settings.{sizeOf, slotFor};
 ghost use Rattle.spans.specs.Spans.{written};
-ghost use Rattle.contents.specs.Contents.{presentAt, roomOf};
+ghost use Rattle.contents.specs.Contents.{longest, presentFor, start};
 ghost use Rattle.owners.specs.Owners.{ownerTable, owns};
 ghost use Rattle.book.specs.Plain.{removeOn};
-ghost use Rattle.book.specs.Book.{call, opened, ours, Permits, Tells};
+ghost use Rattle.book.specs.Book.{callFor, Edit, layoutIn, longestReel, Permits, roomIn, Tells};
 ghost use Rattle.sides.specs.Calls.{Request, foreign};
 ghost use Rattle.sides.specs.Histories.{afterEvent, by};
-ghost use Rattle.sides.specs.Means.{emptiedBytes, longestReel, mayRead, picked, Retold, unless, weightAfter, weightFrom};
+ghost use Rattle.sides.specs.Means.{behind, emptiedBytes, mayRead, picked, Retold, weightAfter, weightFrom};
 use book::Answer;
 use owners::owner_of;
 use reel::Cursor;
@@ -24,9 +24,6 @@ use reel::Step;
 use refusal::Refusal;
 use settings::size_of;
 use settings::slot_for;
-
-// The reel of a book that holds every setting in its longer form.
-const LONGEST_REEL: usize = 195;
 
 // ---- whether a side may call
 
@@ -37,11 +34,11 @@ struct Weights {
 }
 
 // The same of one slot: its frames are all of one length, so a header that has an offset for it tells.
-fn slot_weights(book: &[u8], owners: &[u8], slot: usize) -> Weights
-    ensures { λ r. ⌜ (r .first ≡ cond (presentAt (now (book .entry)) slot && owns (now (owners .entry)) 1 slot) (sizeOf slot) 0) × (r .first ≤ 12) ⌝ }
-    ensures { λ r. ⌜ (r .second ≡ cond (presentAt (now (book .entry)) slot && owns (now (owners .entry)) 2 slot) (sizeOf slot) 0) × (r .second ≤ 12) ⌝ }
+fn slot_weights(book: &[u8], owners: &[u8], slots: usize, slot: usize) -> Weights
+    ensures { λ r. ⌜ (r .first ≡ cond (presentFor slots (now (book .entry)) slot && owns (now (owners .entry)) 1 slot) (sizeOf slot) 0) × (r .first ≤ 12) ⌝ }
+    ensures { λ r. ⌜ (r .second ≡ cond (presentFor slots (now (book .entry)) slot && owns (now (owners .entry)) 2 slot) (sizeOf slot) 0) × (r .second ≤ 12) ⌝ }
 {
-    if contents::offset(book, slot) == 0 {
+    if contents::offset_for(book, slots, slot) == 0 {
         return Weights {
             first: 0,
             second: 0,
@@ -68,15 +65,15 @@ fn slot_weights(book: &[u8], owners: &[u8], slot: usize) -> Weights
 }
 
 // What a sound book's header tells of both sides, in one pass.
-fn weigh(book: &[u8], owners: &[u8]) -> Weights
-    ensures { λ r. ⌜ (r .first ≡ weightFrom settings (owns (now (owners .entry)) 1) (now (book .entry)) 0) × (r .first ≤ 348) ⌝ }
-    ensures { λ r. ⌜ (r .second ≡ weightFrom settings (owns (now (owners .entry)) 2) (now (book .entry)) 0) × (r .second ≤ 348) ⌝ }
+fn weigh(book: &[u8], owners: &[u8], slots: usize) -> Weights
+    ensures { λ r. ⌜ (r .first ≡ weightFrom slots settings (owns (now (owners .entry)) 1) (now (book .entry)) 0) × (r .first ≤ 12 * settings) ⌝ }
+    ensures { λ r. ⌜ (r .second ≡ weightFrom slots settings (owns (now (owners .entry)) 2) (now (book .entry)) 0) × (r .second ≤ 12 * settings) ⌝ }
 {
     let mut first: usize = 0;
     let mut second: usize = 0;
     let mut s: usize = 0;
     while s < table::SETTINGS {
-        let more = slot_weights(book, owners, s);
+        let more = slot_weights(book, owners, slots, s);
         first += more.first;
         second += more.second;
         s += 1;
@@ -93,24 +90,27 @@ fn of_side(both: Weights, side: u64) -> usize
     both.second
 }
 
-// How many bytes of frames a buffer of that length has room for.
-fn room_in(len: usize) -> u64
-    ensures { λ r. ⌜ r ≡ roomOf ours len ⌝ }
+// How many bytes of frames a buffer of that length has room for, behind a header of so many slots.
+fn room_in(len: usize, slots: usize) -> u64
+    requires { ⌜ slots ≤ longest ⌝ }
+    ensures { λ r. ⌜ r ≡ len - start slots ⌝ }
 {
-    if len < book::START {
+    let first = 4 + 2 * slots;
+    if len < first {
         return 0;
     }
-    (len - book::START) as u64
+    (len - first) as u64
 }
 
 // Whether nothing is wrong with the table, the caller and the quotas, as the header tells: the book's own call judges the rest, so it is read once.
 fn may_call(book: &[u8], owners: &[u8], quota1: u64, quota2: u64, caller: u64) -> bool
-    ensures { λ r. ⌜ r ≡ mayRead (ours .slots) (ownerTable (now (owners .entry)) quota1 quota2) caller (roomOf ours (length (now (book .entry))))
-        (now (book .entry)) ⌝ }
+    ensures { λ r. ⌜ r ≡ mayRead (layoutIn (now (book .entry)) .slots) (ownerTable (now (owners .entry)) quota1 quota2) caller
+        (roomIn (now (book .entry))) (now (book .entry)) ⌝ }
 {
-    if owners::is_right(owners, book::SLOTS, room_in(book.len()), quota1, quota2) {
+    let slots = book::slots_in(book);
+    if owners::is_right(owners, slots, room_in(book.len(), slots), quota1, quota2) {
         if owners::is_side(caller) {
-            let held = weigh(book, owners);
+            let held = weigh(book, owners, slots);
             if held.first as u64 <= quota1 {
                 return held.second as u64 <= quota2;
             }
@@ -121,15 +121,25 @@ fn may_call(book: &[u8], owners: &[u8], quota1: u64, quota2: u64, caller: u64) -
     false
 }
 
-// A refusal of a side's own: the book's come first.
-fn refused(book: &[u8], why: Refusal) -> Answer
-    ensures { λ r. ⌜ r ≡ unless why (opened ours (now (book .entry))) ⌝ }
+// A refusal of a side's own, behind what the book was found to be: its own come first.
+fn refused(found: Answer, why: Refusal) -> Answer
+    ensures { λ r. ⌜ r ≡ behind found why ⌝ }
 {
-    let found = book::ready(book);
     let Answer::Done(_) = found else {
         return found;
     };
     Answer::Refused(why)
+}
+
+// The slot that an ask names, if the table has an entry for it.
+fn asked_slot(owners: &[u8], kind: u64) -> usize
+    ensures { λ r. ⌜ r ≡ cond (ltb (slotFor kind) (length (now (owners .entry)))) (slotFor kind) action ⌝ }
+{
+    let slot = slot_for(kind);
+    if slot < owners.len() {
+        return slot;
+    }
+    table::ACTION as usize
 }
 
 // Whether a slot is a setting's that is not the side's.
@@ -145,15 +155,15 @@ fn is_foreign(owners: &[u8], side: u64, slot: usize) -> bool
 // ---- put, remove and ask: past a side's own refusals they are the book's
 
 // How many bytes the frames of a side have once n bytes are put to a slot of its own: they may take the place of either form.
-fn weight_after(book: &[u8], slot: usize, held: usize, n: usize) -> usize
-    requires { ⌜ (held ≤ 348) × (n ≤ 255) ⌝ }
-    ensures { λ r. ⌜ r ≡ weightAfter (now (book .entry)) slot held n ⌝ }
+fn weight_after(book: &[u8], slots: usize, slot: usize, held: usize, n: usize) -> usize
+    requires { ⌜ (held ≤ 12 * settings) × (n ≤ 255) ⌝ }
+    ensures { λ r. ⌜ r ≡ weightAfter slots (now (book .entry)) slot held n ⌝ }
 {
-    if contents::offset(book, slot) != 0 {
+    if contents::offset_for(book, slots, slot) != 0 {
         return held;
     }
     let twin = forms::other_form(slot);
-    if contents::offset(book, twin) != 0 {
+    if contents::offset_for(book, slots, twin) != 0 {
         let old = size_of(twin);
         if old <= held {
             return held - old + n;
@@ -172,27 +182,28 @@ pub fn put(
     caller: u64,
     frame: &[u8],
 ) -> Answer
-    ensures { λ r. ⌜ Permits (afterEvent ours (ownerTable (now (owners .entry)) quota1 quota2) (by caller (Request.Put (now (frame .entry))) [])
+    ensures { λ r. ⌜ Permits (afterEvent (ownerTable (now (owners .entry)) quota1 quota2) (by caller (Request.Put (now (frame .entry))) [])
         (now (book .entry)))
         r (now (book .exit)) ⌝ }
 {
     if may_call(book, owners, quota1, quota2, caller) {
         let slot = settings::slot_of(frame);
         if is_foreign(owners, caller, slot) {
-            return refused(book, Refusal::OtherSide);
+            return refused(book::ready_to_edit(book), Refusal::OtherSide);
         }
         if slot < table::SETTINGS {
-            let held = of_side(weigh(book, owners), caller);
-            if weight_after(book, slot, held, frame.len()) as u64
+            let slots = book::slots_in(book);
+            let held = of_side(weigh(book, owners, slots), caller);
+            if weight_after(book, slots, slot, held, frame.len()) as u64
                 <= owners::quota_of(quota1, quota2, caller)
             {
                 return book::put(book, frame);
             }
-            return refused(book, Refusal::NoRoom);
+            return refused(book::ready_to_edit(book), Refusal::NoRoom);
         }
         return book::put(book, frame);
     }
-    refused(book, Refusal::OwnersWrong)
+    refused(book::ready_to_edit(book), Refusal::OwnersWrong)
 }
 
 // A side's removal of a kind.
@@ -204,16 +215,16 @@ pub fn remove(
     caller: u64,
     kind: u64,
 ) -> Answer
-    ensures { λ r. ⌜ Permits (afterEvent ours (ownerTable (now (owners .entry)) quota1 quota2) (by caller (Request.Remove kind) []) (now (book .entry)))
+    ensures { λ r. ⌜ Permits (afterEvent (ownerTable (now (owners .entry)) quota1 quota2) (by caller (Request.Remove kind) []) (now (book .entry)))
         r (now (book .exit)) ⌝ }
 {
     if may_call(book, owners, quota1, quota2, caller) {
         if is_foreign(owners, caller, slot_for(kind)) {
-            return refused(book, Refusal::OtherSide);
+            return refused(book::ready_to_edit(book), Refusal::OtherSide);
         }
         return book::remove(book, kind);
     }
-    refused(book, Refusal::OwnersWrong)
+    refused(book::ready_to_edit(book), Refusal::OwnersWrong)
 }
 
 // A side's question for a kind's frame.
@@ -226,24 +237,24 @@ pub fn ask(
     kind: u64,
     out: &mut [u8],
 ) -> Answer
-    ensures { λ r. ⌜ Tells (afterEvent ours (ownerTable (now (owners .entry)) quota1 quota2) (by caller (Request.Ask kind) (now (out .entry)))
+    ensures { λ r. ⌜ Tells (afterEvent (ownerTable (now (owners .entry)) quota1 quota2) (by caller (Request.Ask kind) (now (out .entry)))
         (now (book .entry)))
         r (now (out .exit)) ⌝ }
 {
     if may_call(book, owners, quota1, quota2, caller) {
-        if is_foreign(owners, caller, slot_for(kind)) {
-            return refused(book, Refusal::OtherSide);
+        if is_foreign(owners, caller, asked_slot(owners, kind)) {
+            return refused(book::ready_to_read(book), Refusal::OtherSide);
         }
         return book::ask(book, kind, out);
     }
-    refused(book, Refusal::OwnersWrong)
+    refused(book::ready_to_read(book), Refusal::OwnersWrong)
 }
 
 // ---- clear
 
 // Takes a kind out, if it is the side's. The book is not asked to remove what its header does not have: that would be refused.
 fn take_out(book: &mut [u8], owners: &[u8], side: u64, k: u64)
-    ensures { λ _. ⌜ now (book .exit) ≡ cond (owns (now (owners .entry)) side (slotFor k)) (call ours (removeOn k) [] (now (book .entry)) .bytes)
+    ensures { λ _. ⌜ now (book .exit) ≡ cond (owns (now (owners .entry)) side (slotFor k)) (callFor Edit (removeOn k) [] (now (book .entry)) .bytes)
         (now (book .entry)) ⌝ }
 {
     let slot = slot_for(k);
@@ -256,7 +267,7 @@ fn take_out(book: &mut [u8], owners: &[u8], side: u64, k: u64)
 
 // Takes every kind of the side out, one after the other.
 fn take_all_out(book: &mut [u8], owners: &[u8], side: u64)
-    ensures { λ _. ⌜ now (book .exit) ≡ emptiedBytes ours (owns (now (owners .entry)) side) kinds 1 (now (book .entry)) ⌝ }
+    ensures { λ _. ⌜ now (book .exit) ≡ emptiedBytes (owns (now (owners .entry)) side) kinds 1 (now (book .entry)) ⌝ }
 {
     let mut k: u64 = 1;
     while k <= table::KINDS {
@@ -267,10 +278,10 @@ fn take_all_out(book: &mut [u8], owners: &[u8], side: u64)
 
 // A side's clear: the other's frames stay, in their order.
 pub fn clear(book: &mut [u8], owners: &[u8], quota1: u64, quota2: u64, caller: u64) -> Answer
-    ensures { λ r. ⌜ Permits (afterEvent ours (ownerTable (now (owners .entry)) quota1 quota2) (by caller Request.Clear []) (now (book .entry)))
+    ensures { λ r. ⌜ Permits (afterEvent (ownerTable (now (owners .entry)) quota1 quota2) (by caller Request.Clear []) (now (book .entry)))
         r (now (book .exit)) ⌝ }
 {
-    let found = book::ready(book);
+    let found = book::ready_to_edit(book);
     let Answer::Done(_) = found else {
         return found;
     };
@@ -324,7 +335,7 @@ fn tell_part(owners: &[u8], side: u64, reel: &[u8], out: &mut [u8]) -> Answer
     requires { ⌜ length (now reel) ≤ longestReel ⌝ }
     ensures { λ r. ⌜ Retold (picked (owns (now (owners .entry)) side) (now (reel .entry))) (now (out .entry)) r (now (out .exit)) ⌝ }
 {
-    let mut part = [0u8; LONGEST_REEL];
+    let mut part = [0u8; book::LONGEST_REEL];
     let n = pick(owners, side, reel, &mut part);
     if n <= out.len() {
         spans::write(out, 0, &part[0..n]);
@@ -342,16 +353,16 @@ pub fn replay(
     caller: u64,
     out: &mut [u8],
 ) -> Answer
-    ensures { λ r. ⌜ Tells (afterEvent ours (ownerTable (now (owners .entry)) quota1 quota2) (by caller Request.Replay (now (out .entry))) (now (book .entry)))
+    ensures { λ r. ⌜ Tells (afterEvent (ownerTable (now (owners .entry)) quota1 quota2) (by caller Request.Replay (now (out .entry))) (now (book .entry)))
         r (now (out .exit)) ⌝ }
 {
     if may_call(book, owners, quota1, quota2, caller) {
-        let mut reel = [0u8; LONGEST_REEL];
+        let mut reel = [0u8; book::LONGEST_REEL];
         let told = book::replay(book, &mut reel);
         let Answer::Done(n) = told else {
             return told;
         };
         return tell_part(owners, caller, &reel[0..n], out);
     }
-    refused(book, Refusal::OwnersWrong)
+    refused(book::ready_to_read(book), Refusal::OwnersWrong)
 }

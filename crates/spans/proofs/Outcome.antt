@@ -13,3 +13,6 @@ slide-up-once κs a h o u p q i = (o .0, (same p q i, o .1 .1))
 
 zero-once : Once spans.zero.ended spans.zero.Reads.Pre spans.zero.Reads.Learnt
 zero-once κs a h o u p q i = (o .0, (same p q i, o .1 .1))
+
+put-word-once : Once spans.put_word.ended spans.put_word.Reads.Pre spans.put_word.Reads.Learnt
+put-word-once κs a h o u p q i = (o .0, (same p q i, o .1 .1))

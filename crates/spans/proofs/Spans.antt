@@ -1,16 +1,16 @@
--- What fits is done (`written-fits`, `slid-fits`, `slidUp-fits`, `zeroed-fits`), what does not is not (`written-over` and the like); and what
--- fits, in the code's terms (`bounds-..`).
+-- What fits is done (`written-fits`, `slid-fits`, `slidUp-fits`, `zeroed-fits`, `stored-fits`), what does not is not (`written-over` and the like);
+-- and what fits, in the code's terms (`bounds-..`).
 -- Assumes nothing.
 use mathlib.Core.Path.{refl, sym, _∙_, _≡_}
 use mathlib.Core.Bool.{Bool, false, true}
 use mathlib.Core.List.{List}
 use Prim.Native.Nat.{ℕ, _+_, _-_, _<_, _≤_}
 use native.Mathlib.Omega.{arith}
-use borrow.Author.Tests.{le-leb, leb-false, leb-true, lt-leb}
+use borrow.Author.Tests.{le-leb, le-ltb, leb-false, leb-true, lt-leb, lt-ltb}
 use lib.Dec.{leb}
 use lib.ListN.{drop, length, replicate}
 use lib.Seq.{paste}
-use Rattle.spans.specs.Spans.{slid, slidUp, written, zeroed}
+use Rattle.spans.specs.Spans.{setWord, slid, slidUp, stored, written, zeroed}
 
 module _ (b : List ℕ) (at : ℕ) (s : List ℕ) where
   pub written-fits : at + length s ≤ length b → written b at s ≡ paste b at s (length s)
@@ -46,6 +46,19 @@ module _ (b : List ℕ) (at m : ℕ) where
   pub zeroed-over : length b < at + m → zeroed b at m ≡ b
   unfolding zeroed
   zeroed-over h = rw (lt-leb _ _ h)
+
+module _ (b : List ℕ) (i v : ℕ) where
+  pub stored-fits : v < 65536 → i + 2 ≤ length b → stored b i v ≡ setWord b i v
+  unfolding stored
+  stored-fits s h = rw (lt-ltb _ _ s, le-leb _ _ h)
+
+  pub stored-large : 65536 ≤ v → stored b i v ≡ b
+  unfolding stored
+  stored-large s = rw (le-ltb _ _ s)
+
+  pub stored-over : v < 65536 → length b < i + 2 → stored b i v ≡ b
+  unfolding stored
+  stored-over s h = rw (lt-ltb _ _ s, lt-leb _ _ h)
 
 -- ---- in bounds
 

@@ -1,9 +1,9 @@
-// Spans of a lent buffer, in place: a span is written, moved down or up, or set to 0. What does not fit the buffer is left undone, so that no call
-// asks anything of its caller. specs/Spans.antt says what each leaves.
+// Spans of a lent buffer, in place: a span is written, moved down or up, or set to 0, or a number is stored in two bytes. What does not fit the buffer
+// is left undone, so that no call asks anything of its caller. specs/Spans.antt says what each leaves.
 ghost use mathlib.Core.Path.{_≡_};
 ghost use Prim.Native.Nat.{_+_};
 ghost use lib.Dec.{leb};
-ghost use Rattle.spans.specs.Spans.{written, slid, slidUp, zeroed};
+ghost use Rattle.spans.specs.Spans.{stored, written, slid, slidUp, zeroed};
 
 // Whether the m bytes from at + gap on lie in a buffer of len bytes.
 fn in_bounds(len: usize, at: usize, gap: usize, m: usize) -> bool
@@ -66,6 +66,18 @@ pub fn zero(b: &mut [u8], at: usize, m: usize)
         while i < m {
             b[at + i] = 0;
             i += 1;
+        }
+    }
+}
+
+// Stores v in the two bytes at i, high byte first; a number that two bytes cannot hold is not stored.
+pub fn put_word(b: &mut [u8], i: usize, v: usize)
+    ensures { λ _. ⌜ now (b .exit) ≡ stored (now (b .entry)) i v ⌝ }
+{
+    if v < 65536 {
+        if in_bounds(b.len(), i, 0, 2) {
+            b[i] = (v / 256) as u8;
+            b[i + 1] = (v % 256) as u8;
         }
     }
 }

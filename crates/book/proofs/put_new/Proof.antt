@@ -8,7 +8,7 @@ use Rattle.forms.proofs.Forms.{other-low}
 use Rattle.book.specs.Book.{ours}
 use Rattle.book.specs.Edits.{swapped}
 use Rattle.book.proofs.Calls.{Holds, holds-reads, opened-holds, permits}
-use Rattle.book.proofs.Known.{count-few, held-past, held-within, low-offsets}
+use Rattle.book.proofs.Known.{held-past, held-within, low-offsets}
 use Rattle.book.proofs.Putting.{New, put-app, put-full, put-swap, put-tight, twin-size}
 use Rattle.book.proofs.put_new.Statement.{statement}
 use Rattle.book.proofs.put_new.Tie as tie
@@ -32,7 +32,7 @@ new c =
     record {
       own = p .1;
       small = p .2;
-      among = p .2;
+      among = omega (arith, p .2);
       absent = p .3;
       twin = t;
       twin-among = omega (arith, t, other-low _ (p .2));
@@ -97,15 +97,6 @@ sub-if3 c =
     let r = holds-reads ours _ (known (c .before .before .before .before .before .before .before .before)) in
     omega (arith, r .low, r .high, new (c .before) .ends)
 
-append-requires : tie.Need-append-requires
-append-requires c κs =
-    let w = c .before .before .before in
-    let s = w .before .before .before .before .before .before in
-    let h = known (s .before) in
-    let r = holds-reads ours _ h in
-    let n = new w in
-    (omega (arith, r .low, n .small, n .ends), omega (arith, r .high, r .big, n .ends), omega (arith, r .big), omega (arith, count-few ours _ (bytes s) h))
-
 returns-3 : tie.Need-returns-3
 returns-3 c =
     let t = c .before .before .before .before in
@@ -113,7 +104,8 @@ returns-3 c =
     let w = i .before in
     let s = w .before .before .before .before .before .before in
     permits ours _ _ _ _ _ _
-    (put-app ours _ (bytes s) (known (s .before)) _ _ _ _ _ (new w) (i .if1 .left) _ (omega (arith, t .if3 .taken)) (c .before .before .append .ensures))
+    (put-app ours _ (bytes s) (known (s .before)) _ _ _ _ _ (new w) (i .if1 .left) _ (omega arith) (omega (arith, t .if3 .taken))
+    (c .before .before .append .ensures))
 
 returns-4 : tie.Need-returns-4
 returns-4 c =
@@ -126,4 +118,4 @@ put-new-spec =
     tie.close
     (tie.spec
     (search needs) (search needs) (search needs) (search needs) sub-if2 sub-if2-2 swap-requires (search needs) returns (search needs) returns-2
-    sub-if3 append-requires (search needs) returns-3 (search needs) returns-4)
+    sub-if3 (search needs) (search needs) returns-3 (search needs) returns-4)

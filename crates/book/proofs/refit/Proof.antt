@@ -1,5 +1,6 @@
-use Rattle.book.specs.Edits.{refitted}
+use native.Mathlib.Omega.{arith}
 use borrow.Author.Needs.{needs}
+use Rattle.book.proofs.Refitting.{refitted-is}
 use Rattle.book.proofs.refit.Statement.{statement}
 use Rattle.book.proofs.refit.Tie as tie
 
@@ -22,8 +23,12 @@ same-length : tie.Need-same-length
 same-length c = search needs
 
 returns : tie.Need-returns
-unfolding refitted
-returns c = cc
+returns c =
+    let w = c .before .before in
+    let v = w .before .before .before .before in
+    let x = v .before .before .before .before in
+    refitted-is _ _ _ _ _ _ _ _ _ (x .shift-offsets .ensures) (v .move-rest .ensures) (omega arith)
+    (omega (arith, v .move-rest .kept .0, x .shift-offsets .kept .0)) (w .put-word .ensures)
 
 pub refit-spec : {M : Type 1} → statement M
 refit-spec =

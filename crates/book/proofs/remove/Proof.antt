@@ -4,23 +4,27 @@ use native.Mathlib.Omega.{arith}
 use borrow.Author.Needs.{needs}
 use denote.Ref.{now}
 use Rattle.contents.proofs.Judged.{Bytes}
-use Rattle.book.specs.Book.{ours}
+use Rattle.book.specs.Book.{Edit, ours, verdict}
 use Rattle.book.proofs.Known.{held-past, held-within, low-offsets}
 use Rattle.book.proofs.Removing.{remove-absent, remove-done, remove-none, some-held}
 use Rattle.book.specs.Edits.{takenOut}
-use Rattle.book.proofs.Calls.{Holds, holds-reads, opened-holds, permits, turned-away}
+use Rattle.book.proofs.Calls.{Holds, holds-reads, opened-holds}
+use Rattle.book.proofs.Versions.{Serves, edit-serves, off-permits, permits-for}
 use Rattle.book.proofs.remove.Statement.{statement}
 use Rattle.book.proofs.remove.Tie as tie
 
--- the bytes, past the check, read as frames
+-- the bytes, past the check, are a book of our layout, and read as frames
+serving : (c : tie.After-slot-for) → Serves Edit ours (now (c .before .before .before .before .before .before .args .book))
+serving c = edit-serves _ _ (sym (c .before .enum-told .given .1) ∙ c .before .before .before .ready-to-edit .ensures)
+
 known : (c : tie.After-slot-for) → Holds ours (now (c .before .before .before .before .before .before .args .book))
-known c = opened-holds ours _ _ (sym (c .before .enum-told .given .1) ∙ c .before .before .before .ready .ensures)
+known c = opened-holds ours _ _ (sym (c .before .enum-told .given .1) ∙ c .before .before .before .ready-to-edit .ensures ∙ ap verdict (serving c .opens))
 
 bytes : (c : tie.After-slot-for) → Bytes (now (c .before .before .before .before .before .before .args .book))
 bytes c = λ i. c .before .before .before .before .before .slice-known .given i .fits
 
 returns : tie.Need-returns
-returns c = permits ours _ _ _ _ _ _ (turned-away ours _ _ _ _ _ (c .before .before .ready .ensures) (c .enum-told2 .given .1))
+returns c = off-permits _ _ _ Edit _ _ (c .before .before .ready-to-edit .ensures) (c .enum-told2 .given .1)
 
 take-out-requires : tie.Need-take-out-requires
 take-out-requires c κs =
@@ -48,7 +52,7 @@ returns-2 c =
     let t = o .before .before in
     let s = t .before in
     let b = now (s .before .before .before .before .before .before .args .book) in
-    permits ours _ _ _ _ _ _
+    permits-for _ _ _ Edit ours (serving s) _ _ _
     (remove-done ours _ (bytes s) (known s) _ _ (s .slot-for .ensures) (t .if1 .taken) (omega arith) _ (o .offset .ensures .0) (i .if2 .taken) _ _
     (w .word .ensures .0)
     (c .before .before .take-out .ensures
@@ -57,13 +61,14 @@ returns-2 c =
 returns-3 : tie.Need-returns-3
 returns-3 c =
     let s = c .before .before .before .before in
-    permits ours _ _ _ _ _ _ (remove-absent ours _ (bytes s) (known s) _ _ (s .slot-for .ensures) (c .before .before .before .if1 .taken) (omega arith) _
+    permits-for _ _ _ Edit ours (serving s) _ _ _
+    (remove-absent ours _ (bytes s) (known s) _ _ (s .slot-for .ensures) (c .before .before .before .if1 .taken) (omega arith) _
     (c .before .offset .ensures .0) (c .if2 .left))
 
 returns-4 : tie.Need-returns-4
 returns-4 c =
     let s = c .before in
-    permits ours _ _ _ _ _ _ (remove-none ours _ (bytes s) (known s) _ _ (s .slot-for .ensures) (c .if1 .left))
+    permits-for _ _ _ Edit ours (serving s) _ _ _ (remove-none ours _ (bytes s) (known s) _ _ (s .slot-for .ensures) (c .if1 .left))
 
 pub remove-spec : {M : Type 1} → statement M
 remove-spec =

@@ -1,10 +1,12 @@
 use mathlib.Core.Path.{ap, refl, sym, _∙_, _≡_}
 use mathlib.Core.List.{List}
-use Prim.Native.Nat.{ℕ, _-_, _<_, _≤_}
+use Prim.Native.Nat.{ℕ, _*_, _+_, _-_, _<_, _≤_}
 use native.Mathlib.Nat.{le-refl}
 use native.Mathlib.Omega.{arith}
 use borrow.Author.Needs.{needs}
 use lib.ListN.{length}
+use Rattle.spans.specs.Spans.{setWord}
+use Rattle.spans.proofs.Spans.{stored-fits}
 use Rattle.contents.specs.Contents.{longest, offsetAt}
 use Rattle.contents.proofs.Loops.{less-zero}
 use Rattle.book.proofs.Parts.{offset-others, remap-end, remap-step}
@@ -40,14 +42,21 @@ shifted-requires c κs =
 loop-again : tie.Need-loop-again Inv-loop μ-loop
 loop-again c =
     let at = c .before .before .before .before .before .before .before .before in
-    let a = c .before .before .before .before .before .before .before .before .before .before .args in (
+    let a = c .before .before .before .before .before .before .before .before .before .before .args in
+    let φ = shiftedAt (a .at) (a .old) (a .new) in
+    let t = c .before .before .before in
+    let word : c .before .before .put-word .last .0 ≡ setWord (at .loop .b) (4 + 2 * at .loop .s) (φ (offsetAt (at .loop .b) (at .loop .s))) =
+    c .before .before .put-word .ensures
+    ∙ stored-fits _ _ _ (t .shifted .ensures .1) (omega (arith, at .loop .inv .1))
+    ∙ ap (setWord (at .loop .b) (4 + 2 * at .loop .s)) (t .shifted .ensures .0 ∙ ap φ (t .before .before .offset .ensures .0)) in (
       omega arith,
       c .before .before .put-word .kept .0 ∙ at .loop .inv .1,
-      cc (remap-step (a .slots) (shiftedAt (a .at) (a .old) (a .new)) (at .loop .b) (at .loop .s)
-          (c .before .before .before .before .before .before .before .loop-test .taken)),
+      at .loop .inv .2
+          ∙ remap-step (a .slots) φ (at .loop .b) (at .loop .s) (c .before .before .before .before .before .before .before .loop-test .taken)
+          ∙ ap (λ (l : List ℕ). remap φ (a .slots - (at .loop .s + 1)) l (at .loop .s + 1)) (sym word),
       λ j x y.
-          let e : offsetAt (c .before .before .put-word .last .0) j ≡ offsetAt (at .loop .b) j = ap (λ (l : List ℕ). offsetAt l j)
-          (c .before .before .put-word .ensures) ∙ offset-others _ _ _ _ (omega arith) in
+          let e : offsetAt (c .before .before .put-word .last .0) j ≡ offsetAt (at .loop .b) j = ap (λ (l : List ℕ). offsetAt l j) word
+          ∙ offset-others _ _ _ _ (omega arith) in
           omega (arith, e, at .loop .inv .3 j (omega arith) y),
     )
 

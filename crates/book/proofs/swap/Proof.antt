@@ -11,7 +11,8 @@ returns : tie.Need-returns
 returns c =
     let w = c .before .before .before .before .before .before in
     let r = w .before .before .before .before in
-    swapped-is _ _ _ _ _ _ _ _ _ _ (r .refit .ensures) (omega (arith, r .refit .kept .0)) (w .write .ensures) (c .before .before .put-word .ensures)
+    swapped-is _ _ _ _ _ _ _ _ _ _ (r .refit .ensures) (omega (arith, r .refit .kept .0)) (w .write .ensures) (omega arith)
+    (omega (arith, w .write .kept .0, r .refit .kept .0)) (c .before .before .put-word .ensures)
 
 pub swap-spec : {M : Type 1} → statement M
 swap-spec =

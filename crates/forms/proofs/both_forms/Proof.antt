@@ -8,17 +8,17 @@ use denote.Ref.{now}
 use lib.ListN.{drop, getD, length}
 use Rattle.table.specs.Table.{forms}
 use Rattle.settings.specs.Settings.{slotFor}
-use Rattle.contents.specs.Contents.{presentAt}
+use Rattle.contents.specs.Contents.{presentFor}
 use Rattle.forms.specs.Forms.{bothIn, inBoth, longOf, shortOf}
 use Rattle.forms.proofs.Loops.{both-end, both-found, both-pass}
 use Rattle.forms.proofs.both_forms.Statement.{statement}
 use Rattle.forms.proofs.both_forms.Tie as tie
 
 abbrev Inv-loop : tie.InvT-loop
-Inv-loop b ps i₀ i = (i ≤ length forms) × (inBoth (presentAt b) ≡ bothIn (drop i forms) (presentAt b))
+Inv-loop b m ps i₀ i = (i ≤ length forms) × (inBoth (presentFor m b) ≡ bothIn (drop i forms) (presentFor m b))
 
 abbrev μ-loop : tie.MeasureT-loop
-μ-loop b ps i₀ i = length forms - i
+μ-loop b m ps i₀ i = length forms - i
 
 loop-holds : tie.Need-loop-holds Inv-loop μ-loop
 unfolding inBoth
@@ -26,16 +26,15 @@ loop-holds c = (omega arith, refl)
 
 -- what is said of the pair
 said : (c : tie.After-both-present Inv-loop μ-loop)
-    → c .both-present .result
-    ≡ presentAt (now (c .before .before .before .before .before .before .before .args .book))
-    (shortOf (getD forms (c .before .before .before .before .loop .i) []))
-    && presentAt (now (c .before .before .before .before .before .before .before .args .book))
-    (longOf (getD forms (c .before .before .before .before .loop .i) []))
+    → let a = c .before .before .before .before .before .before .before .args in
+    let p = getD forms (c .before .before .before .before .loop .i) [] in
+    c .both-present .result ≡ presentFor (a .slots) (now (a .book)) (shortOf p) && presentFor (a .slots) (now (a .book)) (longOf p)
 said c =
     let l = c .before .before .before .before in
-    let b = now (l .before .before .before .args .book) in
+    let a = l .before .before .before .args in
+    let q = presentFor (a .slots) (now (a .book)) in
     c .both-present .ensures
-    ∙ ap (λ (ps : List (List ℕ)). presentAt b (slotFor (getD (getD ps (l .loop .i) []) 0 0)) && presentAt b (slotFor (getD (getD ps (l .loop .i) []) 1 0)))
+    ∙ ap (λ (ps : List (List ℕ)). q (slotFor (getD (getD ps (l .loop .i) []) 0 0)) && q (slotFor (getD (getD ps (l .loop .i) []) 1 0)))
     (l .before .forms .ensures)
 
 returns : tie.Need-returns Inv-loop μ-loop

@@ -3,19 +3,19 @@ use native.Mathlib.Omega.{arith}
 use borrow.Author.Needs.{needs}
 use denote.Ref.{now}
 use Rattle.book.specs.declared.Answer.the-variants.{Done}
-use Rattle.book.specs.Book.{opened, ours, verdict}
-use Rattle.book.proofs.Calls.{opened-done}
+use Rattle.book.specs.Book.{Edit, openedFor, verdict}
+use Rattle.book.proofs.Versions.{openedFor-done}
 use Rattle.playback.specs.Parts.{passFrom}
 use Rattle.playback.proofs.Running.{after-none, comes-same, comes-still, pass-refused, pass-sound}
 use Rattle.playback.proofs.pass.Statement.{statement}
 use Rattle.playback.proofs.pass.Tie as tie
 
 -- past the check, the book is one that a call may use
-sound : (c : tie.After-enum-told) → Done 0 ≡ verdict (opened ours (now (c .before .before .before .before .before .before .args .book)))
-sound c = opened-done ours _ _ (sym (c .enum-told .given .1) ∙ c .before .before .ready .ensures)
+sound : (c : tie.After-enum-told) → Done 0 ≡ verdict (openedFor Edit (now (c .before .before .before .before .before .before .args .book)))
+sound c = openedFor-done Edit _ _ (sym (c .enum-told .given .1) ∙ c .before .before .ready-to-edit .ensures)
 
 returns : tie.Need-returns
-returns c = pass-refused _ _ _ _ _ _ (c .before .before .ready .ensures) (c .enum-told2 .given .1)
+returns c = pass-refused _ _ _ _ _ _ (c .before .before .ready-to-edit .ensures) (c .enum-told2 .given .1)
 
 play-header-requires : tie.Need-play-header-requires
 play-header-requires c κs = sound (c .before .before .before .before)
@@ -34,7 +34,7 @@ unfolding passFrom
 returns-3 c =
     let t = c .before .before .before .before .before in
     pass-sound _ _ _ _ (sound (t .before .before .before)) _ (t .stage .given .1) _ _
-    (comes-same _ _ _ _ _ (after-none _) (c .before .before .play-gap .ensures))
+    (comes-same _ _ _ _ _ _ (after-none _) (c .before .before .play-gap .ensures))
 
 returns-4 : tie.Need-returns-4
 unfolding passFrom

@@ -10,7 +10,7 @@ play-records-requires c κs = let a = c .before .before .before .before .before 
 returns : tie.Need-returns
 returns c =
     let o = c .before .before .before in
-    comes-same _ _ _ _ _ (gap-passed _ _ _ _ _ _ _ (o .before .before .before .before .before .pre .1) _ _ (o .onward .ensures) (omega arith))
+    comes-same _ _ _ _ _ _ (gap-passed _ _ _ _ _ _ _ (o .before .before .before .before .before .pre .1) _ _ (o .onward .ensures) (omega arith))
     (c .before .before .play-records .ensures)
 
 returns-2 : tie.Need-returns-2
@@ -26,7 +26,7 @@ returns-3 : tie.Need-returns-3
 returns-3 c =
     let o = c .before .before .before in
     let e = o .before .before in
-    comes-same _ _ _ _ _
+    comes-same _ _ _ _ _ _
     (gap-ends _ _ _ _ _ _ _ (e .before .before .before .before .pre .1) _ (omega arith) (e .if2 .left) _ (o .onward3 .ensures))
     (c .before .before .play-records2 .ensures)
 

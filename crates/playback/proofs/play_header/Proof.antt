@@ -28,7 +28,7 @@ play-gap-requires c κs = (c .before .before .before .before .before .before .be
 returns-4 : tie.Need-returns-4
 returns-4 c =
     let e = c .before .before .before .before .before in
-    comes-same _ _ _ _ _
+    comes-same _ _ _ _ _ _
     (header-passed _ _ _ _ (e .before .before .if1 .left) _ _ (e .before .word .ensures .0) (c .before .before .before .before .word2 .ensures .0) (e .if3 .left))
     (c .before .before .play-gap .ensures)
 

@@ -4,9 +4,8 @@ use Prim.Native.Nat.{ℕ, _+_, _≤_}
 use lib.ListN.{length, drop}
 use denote.Ref.{now}
 use borrow.Author.Needs.{needs}
-use Rattle.contents.specs.Contents.{roomOf}
 use Rattle.contents.proofs.Judged.{Bytes}
-use Rattle.book.specs.Book.{ours}
+use Rattle.book.specs.Book.{layoutIn, roomIn}
 use Rattle.playback.specs.Parts.{after, passRecords}
 use Rattle.playback.specs.Code.{stateIn}
 use Rattle.playback.proofs.Sizes.{size-fits, size-none}
@@ -17,7 +16,8 @@ use Rattle.playback.proofs.play_records.Tie as tie
 abbrev Inv-loop : tie.InvT-loop
 Inv-loop book₀ part from more count offset day₀ i₀ at₀ left₀ book day i at left =
     (length book ≡ length book₀)
-    × Along (length book₀) more part (after from (passRecords more (roomOf ours (length book₀)) count offset (drop from part) (stateIn book₀ day₀))) day book i at left
+    × Along (layoutIn book₀) (length book₀) more part
+    (after from (passRecords more (roomIn book₀) count offset (drop from part) (stateIn book₀ day₀))) day book i at left
 
 abbrev μ-loop : tie.MeasureT-loop
 μ-loop book₀ part from more count offset day₀ i₀ at₀ left₀ book day i at left = left
@@ -42,7 +42,7 @@ returns : tie.Need-returns Inv-loop μ-loop
 returns c =
     let z = c .before .before .before .before in
     let l = z .before .before in
-    along-stop _ _ _ _ _ _ _ _ _ (l .loop .inv .1) (omega arith)
+    along-stop _ _ _ _ _ _ _ _ _ _ (l .loop .inv .1) (omega arith)
     (size-none (now (l .before .before .before .args .part)) (l .loop .i) _ (z .size-at .ensures) (omega arith))
     (sym (c .before .before .is-hopeless .ensures) ∙ c .before .if2 .taken) _ (c .halt .ensures)
 
@@ -50,7 +50,7 @@ returns-2 : tie.Need-returns-2 Inv-loop μ-loop
 returns-2 c =
     let z = c .before .before .before .before in
     let l = z .before .before in
-    along-wait _ _ _ _ _ _ _ _ _ (l .loop .inv .1) (omega arith)
+    along-wait _ _ _ _ _ _ _ _ _ _ (l .loop .inv .1) (omega arith)
     (size-none (now (l .before .before .before .args .part)) (l .loop .i) _ (z .size-at .ensures) (omega arith))
     (sym (c .before .before .is-hopeless .ensures) ∙ c .before .if2 .left) _ (c .halt2 .ensures)
 
@@ -80,12 +80,12 @@ loop-again c =
     let l = z .before .before in (
       t .turn .kept .1 .0 ∙ l .loop .inv .0,
       rw (c .onward .ensures)
-          (along-next _ _ _ _ _ _ _ _ _ (l .loop .inv .1) _ _ _ _ (omega arith)
+          (along-next _ _ _ _ _ _ _ _ _ _ (l .loop .inv .1) _ _ _ _ (omega arith)
           (size-fits (now (l .before .before .before .args .part)) (l .loop .i) _ (z .size-at .ensures) (omega arith)) (t .turn .ensures)),
     )
 
 returns-3 : tie.Need-returns-3 Inv-loop μ-loop
-returns-3 c = along-end _ _ _ _ _ _ _ _ _ (c .before .before .loop .inv .1) (omega arith) _ (c .halt3 .ensures)
+returns-3 c = along-end _ _ _ _ _ _ _ _ _ _ (c .before .before .loop .inv .1) (omega arith) _ (c .halt3 .ensures)
 
 pub play-records-spec : {M : Type 1} → statement M
 play-records-spec =

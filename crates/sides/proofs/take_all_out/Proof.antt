@@ -7,7 +7,6 @@ use denote.Ref.{now}
 use lib.ListN.{length}
 use Rattle.table.specs.Table.{kinds}
 use Rattle.owners.specs.Owners.{owns}
-use Rattle.book.specs.Book.{ours}
 use Rattle.sides.specs.Means.{emptiedBytes}
 use Rattle.sides.proofs.Calling.{emptied-end, emptied-on}
 use Rattle.sides.proofs.take_all_out.Statement.{statement}
@@ -16,7 +15,7 @@ use Rattle.sides.proofs.take_all_out.Tie as tie
 abbrev Inv-loop : tie.InvT-loop
 Inv-loop book₀ owners side k₀ book k =
     (k ≤ kinds + 1) × (length book ≡ length book₀)
-    × (emptiedBytes ours (owns owners side) kinds 1 book₀ ≡ emptiedBytes ours (owns owners side) (kinds + 1 - k) k book)
+    × (emptiedBytes (owns owners side) kinds 1 book₀ ≡ emptiedBytes (owns owners side) (kinds + 1 - k) k book)
 
 abbrev μ-loop : tie.MeasureT-loop
 μ-loop book₀ owners side k₀ book k = kinds + 1 - k
@@ -32,7 +31,7 @@ loop-again c =
       c .before .before .take-out .kept .0 ∙ l .inv .1,
       l .inv .2
           ∙ emptied-on (owns (now (a .owners)) (a .side)) (l .k) (l .book) (c .before .before .before .before .loop-test .taken)
-          ∙ ap (λ (x : List ℕ). emptiedBytes ours (owns (now (a .owners)) (a .side)) (kinds + 1 - (l .k + 1)) (l .k + 1) x)
+          ∙ ap (λ (x : List ℕ). emptiedBytes (owns (now (a .owners)) (a .side)) (kinds + 1 - (l .k + 1)) (l .k + 1) x)
           (sym (c .before .before .take-out .ensures)),
     )
 

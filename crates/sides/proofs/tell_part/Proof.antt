@@ -2,13 +2,14 @@ use Prim.Native.Nat.{ℕ, _≤_}
 use native.Mathlib.Omega.{arith}
 use borrow.Author.Needs.{needs}
 use lib.ListN.{length, length-replicate}
+use Rattle.book.specs.Book.{longestReel}
 use Rattle.sides.proofs.Picking.{give-done, give-short}
 use Rattle.sides.proofs.tell_part.Statement.{statement}
 use Rattle.sides.proofs.tell_part.Tie as tie
 
 -- what was picked fits its buffer
 fits : (c : tie.After-pick) → c .pick .result ≤ length (c .pick .last .1 .1 .1 .0)
-fits c = omega (arith, c .pick .ensures .1, c .before .before .before .before .before .pre, c .pick .kept .1 .1 .1 .0, length-replicate {A = ℕ} 195 0)
+fits c = omega (arith, c .pick .ensures .1, c .before .before .before .before .before .pre, c .pick .kept .1 .1 .1 .0, length-replicate {A = ℕ} longestReel 0)
 
 returns : tie.Need-returns
 returns c =

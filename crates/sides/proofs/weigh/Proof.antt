@@ -11,13 +11,13 @@ use Rattle.sides.proofs.weigh.Statement.{statement}
 use Rattle.sides.proofs.weigh.Tie as tie
 
 abbrev Inv-loop : tie.InvT-loop
-Inv-loop book owners first₀ second₀ s₀ first second s =
-    (s ≤ settings) × (first ≤ 12 * s) × (second ≤ 12 * s) × (weightFrom settings (owns owners 1) book 0
-    ≡ first + weightFrom (settings - s) (owns owners 1) book s)
-    × (weightFrom settings (owns owners 2) book 0 ≡ second + weightFrom (settings - s) (owns owners 2) book s)
+Inv-loop book owners m first₀ second₀ s₀ first second s =
+    (s ≤ settings) × (first ≤ 12 * s) × (second ≤ 12 * s) × (weightFrom m settings (owns owners 1) book 0
+    ≡ first + weightFrom m (settings - s) (owns owners 1) book s)
+    × (weightFrom m settings (owns owners 2) book 0 ≡ second + weightFrom m (settings - s) (owns owners 2) book s)
 
 abbrev μ-loop : tie.MeasureT-loop
-μ-loop book owners first₀ second₀ s₀ first second s = settings - s
+μ-loop book owners m first₀ second₀ s₀ first second s = settings - s
 
 loop-holds : tie.Need-loop-holds Inv-loop μ-loop
 loop-holds c = (omega arith, omega arith, omega arith, omega arith, omega arith)
@@ -43,13 +43,13 @@ loop-again c =
         arith,
         l .loop .inv .3,
         k .slot-weights .ensures .0 .0,
-        weight-step settings (owns (now (a .owners)) 1) (now (a .book)) (l .loop .s) (t .loop-test .taken),
+        weight-step (a .slots) settings (owns (now (a .owners)) 1) (now (a .book)) (l .loop .s) (t .loop-test .taken),
       ),
       omega (
         arith,
         l .loop .inv .4,
         k .slot-weights .ensures .1 .0,
-        weight-step settings (owns (now (a .owners)) 2) (now (a .book)) (l .loop .s) (t .loop-test .taken),
+        weight-step (a .slots) settings (owns (now (a .owners)) 2) (now (a .book)) (l .loop .s) (t .loop-test .taken),
       ),
     )
 
@@ -58,11 +58,11 @@ returns c =
     let l = c .before in
     let a = l .before .before .before .args in (
       (
-        omega (arith, l .loop .inv .3, weight-end settings (owns (now (a .owners)) 1) (now (a .book)) (l .loop .s) (c .loop-test .left)),
+        omega (arith, l .loop .inv .3, weight-end (a .slots) settings (owns (now (a .owners)) 1) (now (a .book)) (l .loop .s) (c .loop-test .left)),
         omega (arith, l .loop .inv .1, l .loop .inv .0),
       ),
       (
-        omega (arith, l .loop .inv .4, weight-end settings (owns (now (a .owners)) 2) (now (a .book)) (l .loop .s) (c .loop-test .left)),
+        omega (arith, l .loop .inv .4, weight-end (a .slots) settings (owns (now (a .owners)) 2) (now (a .book)) (l .loop .s) (c .loop-test .left)),
         omega (arith, l .loop .inv .2, l .loop .inv .0),
       ),
     )

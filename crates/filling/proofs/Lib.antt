@@ -1,0 +1,5 @@
+pub mod Pieces
+pub mod Lists
+pub mod Images
+pub mod Filling
+pub mod Outcome
