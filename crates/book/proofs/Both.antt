@@ -21,7 +21,7 @@ use Rattle.book.specs.History.{Ask, Call, Clear, Make, Put, Remove, Repl
 use Rattle.book.specs.Plain.{Turn}
 use Rattle.codec.proofs.Places.{decode-own}
 use Rattle.book.proofs.Calls.{opened-forms, opened-judge}
-use Rattle.book.proofs.Versions.{edit-opened, edit-serves}
+use Rattle.book.proofs.Versions.{edit-opened, edit-serves, openedFor-refuses, refuses-opened}
 use Rattle.book.proofs.Keeps.{lentTo}
 use Rattle.book.proofs.Places.{Says, Steps, after-says, made-says}
 use Rattle.book.proofs.Single.{history-opens}
@@ -52,13 +52,13 @@ module _ (b : List ℕ) (x : Refusal) where
 
 module _ (b : List ℕ) (c : Call) (n : isMake c ≡ false) where
   pub ten-first : (x : Refusal) → judge (layoutIn b) b ≡ refused x → after c b ≡ record { answer = Refused x; output = lentTo c; bytes = b }
-  unfolding openedFor opened
-  ten-first x e = after-refused b x c n (rw e)
+  unfolding opened
+  ten-first x e = after-refused b x c n (openedFor-refuses (wants c) b x (rw e))
 
   pub both-refused : (fs : List (List ℕ)) → judge (layoutIn b) b ≡ holds fs → single fs ≡ false
       → after c b ≡ record { answer = Refused BothForms; output = lentTo c; bytes = b }
-  unfolding openedFor opened
-  both-refused fs e o = after-refused b BothForms c n (rw (e, o))
+  unfolding opened
+  both-refused fs e o = after-refused b BothForms c n (openedFor-refuses (wants c) b BothForms (rw (e, o)))
 
 -- the frames of a book that gets 16
 pub record Both (l : Layout) (b : List ℕ) : Type 0 where
@@ -103,8 +103,8 @@ module _ (b : List ℕ) where
           by true s z = let h : 0 ≡ numberOf x = ap number z in absurd (omega arith)
 
   own : (u : Use) (x : Refusal) → openedFor u b ≡ refused x → numberOf x ≡ 16 → Both l b
-  unfolding openedFor l
-  own u x e n = two-forms x e n
+  unfolding l
+  own u x e n = two-forms x (refuses-opened u b x e) n
 
   -- whatever the call and the bytes: who hears 16 called a book that holds both forms
   pub sixteen-only : (c : Call) → after c b .answer ≡ Refused BothForms → (isMake c ≡ false) × Both (layoutIn b) b

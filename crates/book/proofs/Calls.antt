@@ -1,22 +1,20 @@
--- A call on bytes, by what is read in them: it is turned away and alters nothing (`turned-away`), or it is the step on the frames (`accept`).
--- And the empty book: make and clear.
+-- A call on bytes of a layout, by what is read in them: what opens and what does not (`opened-..`, `ready-..`), and the step on the frames (`accept`);
+-- and what a make gives (`make-..`).
 -- Assumes nothing.
-use mathlib.Core.Path.{ap, ap₂, refl, sym, _∙_, _≡_}
+use mathlib.Core.Path.{ap, refl, sym, _∙_, _≡_}
 use mathlib.Core.Bool.{Bool, cond, false, not, true}
-use mathlib.Core.List.{List, [], append-nil, _++_, _∷_}
-use Prim.Native.Nat.{suc, zero, ℕ, _%_, _*_, _+_, _-_, _/_, _<_, _≤_}
-use native.Mathlib.Omega.{arith}
+use mathlib.Core.List.{List, []}
+use Prim.Native.Nat.{ℕ, _-_, _<_, _≤_}
 use borrow.Author.Tests.{le-leb, lt-leb}
 use lib.Dec.{eqb}
-use lib.ListN.{drop, length, length-replicate, replicate, replicate-append-replicate, set, take}
-use lib.Seq.{drop-length, paste, take-all}
+use lib.ListN.{length}
 use Rattle.refusal.specs.declared.Refusal.{Refusal}
 use Rattle.refusal.specs.declared.Refusal.the-variants.{BothForms, BufferSize}
 use Rattle.contents.specs.declared.Verdict.the-variants as checked
 use Rattle.book.specs.declared.Answer.{Answer}
 use Rattle.book.specs.declared.Answer.the-variants.{Done, Refused}
-use Rattle.contents.specs.Frames.{flat, held, place}
-use Rattle.contents.specs.Contents.{Contents, Layout, header, holds, image, judge, longest, presentAt, presentFor, refused, roomOf, start, verdictOf, words}
+use Rattle.contents.specs.Frames.{held}
+use Rattle.contents.specs.Contents.{Contents, Layout, holds, image, judge, longest, presentAt, presentFor, refused, roomOf, start, verdictOf}
 use Rattle.contents.proofs.Judged.{Bytes, Reads, apart, judge-image, judge-reads}
 use Rattle.contents.proofs.Offsets.{offset-among, present-tells}
 use Rattle.forms.specs.Forms.{inBoth, single}
@@ -100,16 +98,6 @@ pub record Gives (l : Layout) (s : List ℕ → ℕ → List (List ℕ) → Turn
   pub answer : a ≡ call l s o b .answer
   pub output : x ≡ call l s o b .output
   pub bytes : y ≡ call l s o b .bytes
-
--- a call that is refused by the reading leaves the bytes
-pub turned-away : (l : Layout) (s : List ℕ → ℕ → List (List ℕ) → Turn) (o b : List ℕ) (a : Answer) (r : Refusal) → a ≡ verdict (opened l b) → a ≡ Refused r
-    → Gives l s o b a o b
-unfolding call
-turned-away l s o b a r e z = go (opened l b) refl
-  where
-    go : (q : Contents) → opened l b ≡ q → Gives l s o b a o b
-    go (refused n) w = let u : a ≡ Refused n = e ∙ ap verdict w in record { answer = rw w u; output = rw w; bytes = rw w }
-    go (holds fs) w = absurd (done-refused 0 r (sym (e ∙ ap verdict w) ∙ z))
 
 -- a call on a book that reads as frames is the step on them
 pub accept : (l : Layout) (s : List ℕ → ℕ → List (List ℕ) → Turn) (o b : List ℕ) (h : Holds l b) (t : Turn) (y : List ℕ)

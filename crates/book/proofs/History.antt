@@ -1,5 +1,5 @@
--- Every list of calls on a fresh book gives the answers, the outputs and the bytes of the plain list (`history-from`, `history`,
--- `history-made`, and `history-ours` with the numbers). `runs` says it of any calls that do to bytes what they do to a list.
+-- Every list of calls gives the answers, the outputs and the bytes of the plain list: from any list that a book can hold (`history-from`), and on a
+-- fresh book (`history`, `history-made`, and `history-ours` with the numbers). `runs` says it of any calls that do to bytes what they do to a list.
 -- Assumes nothing.
 use mathlib.Core.Path.{ap, refl, sym, _∙_, _≡_}
 use mathlib.Core.List.{List, [], _∷_}
@@ -11,10 +11,10 @@ use Rattle.contents.specs.Contents.{Layout, holds, image, longest, roomOf, star
 use Rattle.contents.proofs.Written.{image-judge, image-length}
 use Rattle.forms.proofs.Forms.{forms-single}
 use Rattle.book.specs.Plain.{Turn, askOn, become, clearOn, putOn, removeOn, replayOn}
-use Rattle.book.specs.Book.{Edit, Outcome, Read, Use, call, callFor, layoutIn, made, opened, openedFor, ours}
+use Rattle.book.specs.Book.{Edit, Outcome, Read, Use, call, callFor, made, opened, openedFor, ours}
 use Rattle.book.specs.History.{Ask, Call, Clear, Make, Put, Remove, Replay, after, onBytes, onList, turn}
 use Rattle.book.proofs.Calls.{make-fits}
-use Rattle.book.proofs.Versions.{Serves, for-layout}
+use Rattle.book.proofs.Versions.{for-layout, image-serves}
 use Rattle.book.proofs.Kept.{Kept, empty-kept, turn-kept}
 
 -- ---- runs, whatever the calls are
@@ -56,16 +56,12 @@ module _ (l : Layout) (n : ℕ) (low : start (l .slots) ≤ n) (high : n ≤ lon
 -- and of the one that is made
 module _ (n : ℕ) (low : start (ours .slots) ≤ n) (high : n ≤ longest) where
   module _ (fs : List (List ℕ)) (K : Kept (ours .slots) (roomOf ours n) fs) (u : Use) where
-    image-serves : Serves u ours (image ours n fs)
-    unfolding openedFor layoutIn
-    image-serves = record { layout = refl; opens = refl }
-
     pub openedFor-image : openedFor u (image ours n fs) ≡ holds fs
-    openedFor-image = image-serves .opens ∙ opened-image ours n low high fs K
+    openedFor-image = image-serves u n fs .opens ∙ opened-image ours n low high fs K
 
     -- a call on it is the step on its list
     pub for-image : (s : List ℕ → ℕ → List (List ℕ) → Turn) (o : List ℕ) → callFor u s o (image ours n fs) ≡ shown ours n low high (s o (roomOf ours n) fs)
-    for-image s o = for-layout s o (image ours n fs) u ours image-serves ∙ call-image ours n low high s o fs K
+    for-image s o = for-layout s o (image ours n fs) u ours (image-serves u n fs) ∙ call-image ours n low high s o fs K
 
   pub after-image : (c : Call) (fs : List (List ℕ)) → Kept (ours .slots) (roomOf ours n) fs
       → after c (image ours n fs) ≡ shown ours n low high (turn (roomOf ours n) c fs)

@@ -40,7 +40,7 @@ use Rattle.forms.proofs.Forms.{OneForm}
 use Rattle.forms.proofs.Most.{most-bytes}
 use Rattle.contents.proofs.Judged.{Bytes, judge-image}
 use Rattle.book.specs.Plain.{Turn, askOn, become, frameOf, ifHeld, placed, putOn, refuse, removeOn, replayOn, swapIn, tell, without}
-use Rattle.filling.proofs.Lists.{held-after, held-here, sound-middle}
+use Rattle.contents.proofs.Lists.{held-after, held-here, sound-middle}
 use Rattle.book.proofs.Placed.{by-place, held-cons, placed-forms, placed-over, placed-sound, placed-swap}
 use Rattle.book.proofs.Swapping.{swap-room}
 use Rattle.book.proofs.Putting.{over-room, putOn-fits}

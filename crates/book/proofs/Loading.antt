@@ -16,7 +16,7 @@ use Rattle.forms.proofs.Forms.{OneForm}
 use Rattle.book.specs.declared.Answer.the-variants.{Done, Refused}
 use Rattle.book.specs.Plain.{placed}
 use Rattle.book.specs.History.{Call, Heard, Put, onList, turn}
-use Rattle.filling.proofs.Lists.{flat-split, held-after, held-before, held-here, sound-middle}
+use Rattle.contents.proofs.Lists.{flat-split, held-after, held-before, held-here, sound-middle}
 use Rattle.book.proofs.Placed.{placed-last}
 use Rattle.book.proofs.Putting.{putOn-fits, putOn-full}
 

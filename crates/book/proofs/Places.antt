@@ -21,11 +21,12 @@ use Rattle.table.specs.Table.{settings}
 use Rattle.settings.specs.Settings.{lacks, slotFor, slotOf}
 use Rattle.contents.specs.Frames.{flat, held}
 use Rattle.contents.specs.Contents.{Contents, Layout, holds, image, judge, longest, refused}
-use Rattle.contents.specs.Contents.{roomOf, start}
+use Rattle.contents.specs.Contents.{start}
 use Rattle.forms.specs.Forms.{single}
 use Rattle.book.specs.Plain.{Turn, askOn, become, clearOn, frameOf, placed, putOn, refuse, removeOn, replayOn, tell, without}
 use Rattle.book.specs.Book.{Edit, Outcome, Read, Use, agreed, callFor, layoutIn, made, onContents, opened, openedFor, ours, roomIn}
 use Rattle.book.specs.History.{Ask, Call, Clear, Make, Put, Remove, Replay, after}
+use Rattle.book.proofs.Versions.{refuses-opened}
 
 -- what is said of an answer that is a refusal
 abbrev pub Says : (Refusal → Type 0) → Answer → Type 0
@@ -155,8 +156,7 @@ opened-says P both l b h x e = subst of e (by (judge l b) refl)
 -- and so of every refusal that a use finds
 pub openedFor-says : (P : Refusal → Type 0) → P BothForms → (b : List ℕ) → ((y : Refusal) → judge (layoutIn b) b ≡ refused y → P y)
     → (u : Use) (x : Refusal) → openedFor u b ≡ refused x → P x
-unfolding openedFor
-openedFor-says P both b h u = opened-says P both (layoutIn b) b h
+openedFor-says P both b h u x e = opened-says P both (layoutIn b) b h x (refuses-opened u b x e)
 
 pub found-near : (b : List ℕ) (u : Use) (x : Refusal) → openedFor u b ≡ refused x → placeOf x ≤ 12
 found-near b = openedFor-says Near (omega arith) b (λ y w. omega (arith, judge-place (layoutIn b) b y w))

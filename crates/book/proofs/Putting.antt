@@ -2,14 +2,14 @@
 -- and a frame behind the others (`append-image` of `filling`); and what `put` returns (`put-..`).
 -- Assumes nothing.
 use mathlib.Core.Path.{ap, ap₂, refl, subst, sym, _∙_, _≡_}
-use mathlib.Core.Bool.{Bool, cond, false, false≢true, true}
-use mathlib.Core.List.{List, [], append-assoc, append-nil, _++_, _∷_}
-use Prim.Native.Nat.{suc, ℕ, _%_, _*_, _+_, _-_, _/_, _<_, _≤_}
+use mathlib.Core.Bool.{Bool, cond, false, true}
+use mathlib.Core.List.{List, [], append-assoc, _++_, _∷_}
+use Prim.Native.Nat.{ℕ, _%_, _+_, _-_, _/_, _<_, _≤_}
 use native.Mathlib.Omega.{arith}
-use borrow.Author.Tests.{eq-eqb, eqb-true, le-leb, le-ltb, lt-leb, lt-ltb, ne-eqb}
+use borrow.Author.Tests.{eqb-true, le-leb, le-ltb, lt-leb, lt-ltb}
 use lib.Dec.{eqb}
-use lib.ListN.{drop, length, length-append, length-set, replicate, set, take}
-use lib.Seq.{paste, set-append-left, take-length}
+use lib.ListN.{drop, length, length-append, replicate, take}
+use lib.Seq.{paste, take-length}
 use Rattle.refusal.specs.declared.Refusal.{Refusal}
 use Rattle.spans.specs.Spans.{written}
 use Rattle.spans.proofs.Spans.{written-fits}
@@ -20,13 +20,13 @@ use Rattle.table.specs.Table.{settings}
 use Rattle.settings.specs.Settings.{lacks, sizeOf, slotOf}
 use Rattle.settings.proofs.Settings.{slotOf-length}
 use Rattle.contents.specs.Frames.{flat, held, place}
-use Rattle.contents.specs.Contents.{Layout, header, image, offsetAt, roomOf, start, wordAt, words}
+use Rattle.contents.specs.Contents.{Layout, header, image, offsetAt, roomOf, start, wordAt}
 use Rattle.contents.proofs.Shape.{Sound, place-from, place-in}
 use Rattle.contents.proofs.Judged.{Bytes, offsets}
 use Rattle.contents.proofs.Headers.{header-length, words-cong}
 use Rattle.filling.specs.Filling.{appendedTo}
 use Rattle.filling.proofs.Pieces.{paste-left, paste-right}
-use Rattle.filling.proofs.Lists.{flat-append}
+use Rattle.contents.proofs.Lists.{flat-append}
 use Rattle.filling.proofs.Filling.{append-image}
 use Rattle.forms.specs.Forms.{other}
 use Rattle.book.specs.Plain.{become, placed, putOn, refuse, swapIn}
@@ -184,7 +184,7 @@ module _ (l : Layout) (b : List ℕ) (B : Bytes b) (h : Holds l b) (f : List ℕ
         (putOn-fits f [] (roomOf l (length b)) (h .frames) (omega (arith, N .own, N .small)) _ behind (omega (arith, more, room)))
         (p
         ∙ ap₂ (λ (s : ℕ) (x : List ℕ). appendedTo (l .slots) s f x) (N .own) (is-image l b B h)
-        ∙ append-image l (length b) f (h .frames) (holds-reads l b h .big) fresh (omega (arith, N .own, N .among))
+        ∙ append-image l (length b) f (h .frames) (holds-reads l b h .big) (omega (arith, N .own, N .small)) fresh (omega (arith, N .own, N .among))
         (omega (arith, count-is l b B h, count-few l b B h)) room)
       where
         room : start (l .slots) + length (flat (h .frames)) + length f ≤ length b

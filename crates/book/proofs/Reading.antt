@@ -2,10 +2,9 @@
 -- stay (`reads-run`).
 -- Assumes nothing.
 use mathlib.Core.Path.{ap, refl, sym, _∙_, _≡_}
-use mathlib.Core.Bool.{Bool, cond, false, true}
+use mathlib.Core.Bool.{Bool, cond, false, false≢true, true}
 use mathlib.Core.List.{List, [], _∷_}
 use Prim.Native.Nat.{ℕ}
-use native.Mathlib.Omega.{arith}
 use lib.Dec.{ltb}
 use lib.ListN.{length}
 use Rattle.refusal.specs.declared.Refusal.the-variants.{NotAKind, NotHeld}
@@ -16,17 +15,14 @@ use Rattle.contents.specs.Frames.{held}
 use Rattle.contents.specs.Contents.{holds, image}
 use Rattle.contents.proofs.Judged.{Bytes}
 use Rattle.book.specs.Plain.{Turn, askOn, frameOf, refuse, replayOn, tell}
-use Rattle.book.specs.Book.{Edit, Outcome, Read, callFor, layoutIn, openedFor, roomIn}
-use Rattle.book.specs.History.{Ask, Call, Clear, Make, OnlyReads, Put, Remove, Replay, after, onBytes, onList, turn, wants}
+use Rattle.book.specs.Book.{Read, Use, callFor, layoutIn, openedFor, roomIn}
+use Rattle.book.specs.History.{Ask, Call, Clear, Make, OnlyReads, Put, Remove, Replay, after, isRead, onBytes, onList, turn}
 use Rattle.book.proofs.Calls.{opened-bytes}
 use Rattle.book.proofs.Kept.{tell-frames}
 use Rattle.book.proofs.Versions.{openedFor-opened}
 
--- an edit is no read
-apart : Edit ≡ Read → ⊥
-apart e = let z : _≡_ {A = ℕ} 0 1 = cc in omega arith
-
-ask-frames : (k : ℕ) (o : List ℕ) (room : ℕ) (fs : List (List ℕ)) → askOn k o room fs .frames ≡ fs
+-- an ask leaves the list
+pub ask-frames : (k : ℕ) (o : List ℕ) (room : ℕ) (fs : List (List ℕ)) → askOn k o room fs .frames ≡ fs
 unfolding askOn
 ask-frames k o room fs = go (ltb (slotFor k) settings) (held (slotFor k) fs)
   where
@@ -35,28 +31,38 @@ ask-frames k o room fs = go (ltb (slotFor k) settings) (held (slotFor k) fs)
     go true false = refl
     go false y = refl
 
-module _ (b : List ℕ) (B : Bytes b) (fs : List (List ℕ)) (h : openedFor Read b ≡ holds fs) where
-  -- a step that leaves the list leaves the bytes
-  stays : (s : List ℕ → ℕ → List (List ℕ) → Turn) (o : List ℕ) → s o (roomIn b) fs .frames ≡ fs
-      → callFor Read s o b ≡ record { answer = s o (roomIn b) fs .answer; output = s o (roomIn b) fs .output; bytes = b }
-  unfolding callFor
-  stays s o e =
-      rw h
-      (ap (λ (x : List ℕ). record { answer = s o (roomIn b) fs .answer; output = s o (roomIn b) fs .output; bytes = x })
-      (ap (image (layoutIn b) (length b)) e ∙ sym (opened-bytes (layoutIn b) b fs B (openedFor-opened Read b fs h))))
+-- and so does every call that only reads
+pub read-frames : (room : ℕ) (c : Call) → isRead c ≡ true → (fs : List (List ℕ)) → turn room c fs .frames ≡ fs
+unfolding turn replayOn
+read-frames room Make n fs = absurd (false≢true n)
+read-frames room (Put f) n fs = absurd (false≢true n)
+read-frames room (Remove k) n fs = absurd (false≢true n)
+read-frames room (Ask k o) n fs = ask-frames k o room fs
+read-frames room Clear n fs = absurd (false≢true n)
+read-frames room (Replay o) n fs = tell-frames (reelOf fs) o fs
 
-  read-is : (c : Call) → wants c ≡ Read → (turn (roomIn b) c fs .frames ≡ fs)
-      × (after c b ≡ record { answer = turn (roomIn b) c fs .answer; output = turn (roomIn b) c fs .output; bytes = b })
-  unfolding turn replayOn
-  read-is Make n = absurd (apart n)
-  read-is (Put f) n = absurd (apart n)
-  read-is (Remove k) n = absurd (apart n)
-  read-is (Ask k o) n = let e = ask-frames k o (roomIn b) fs in (e, stays (askOn k) o e)
-  read-is Clear n = absurd (apart n)
-  read-is (Replay o) n = let e = tell-frames (reelOf fs) o fs in (e, stays replayOn o e)
+-- a step that leaves the list leaves the bytes
+pub stays : (u : Use) (b : List ℕ) → Bytes b → (fs : List (List ℕ)) → openedFor u b ≡ holds fs → (s : List ℕ → ℕ → List (List ℕ) → Turn) (o : List ℕ)
+    → s o (roomIn b) fs .frames ≡ fs
+    → callFor u s o b ≡ record { answer = s o (roomIn b) fs .answer; output = s o (roomIn b) fs .output; bytes = b }
+unfolding callFor
+stays u b B fs h s o e =
+    rw h
+    (ap (λ (x : List ℕ). record { answer = s o (roomIn b) fs .answer; output = s o (roomIn b) fs .output; bytes = x })
+    (ap (image (layoutIn b) (length b)) e ∙ sym (opened-bytes (layoutIn b) b fs B (openedFor-opened u b fs h))))
+
+module _ (b : List ℕ) (B : Bytes b) (fs : List (List ℕ)) (h : openedFor Read b ≡ holds fs) where
+  read-is : (c : Call) → isRead c ≡ true → after c b ≡ record { answer = turn (roomIn b) c fs .answer; output = turn (roomIn b) c fs .output; bytes = b }
+  unfolding turn
+  read-is Make n = absurd (false≢true n)
+  read-is (Put f) n = absurd (false≢true n)
+  read-is (Remove k) n = absurd (false≢true n)
+  read-is (Ask k o) n = stays Read b B fs h (askOn k) o (ask-frames k o (roomIn b) fs)
+  read-is Clear n = absurd (false≢true n)
+  read-is (Replay o) n = stays Read b B fs h replayOn o (read-frames (roomIn b) (Replay o) n fs)
 
   -- A STORED BOOK IS READ AS ITS LIST IS
   pub reads-run : (cs : List Call) → OnlyReads cs → onBytes after cs b ≡ record { heard = onList (turn (roomIn b)) cs fs .heard; bytes = b }
   unfolding onBytes onList
   reads-run [] n = refl
-  reads-run (c ∷ cs) n = let r = read-is c (n .0) in rw (r .1, r .0, reads-run cs (n .1))
+  reads-run (c ∷ cs) n = rw (read-is c (n .0), read-frames (roomIn b) c (n .0) fs, reads-run cs (n .1))

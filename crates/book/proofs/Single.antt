@@ -1,6 +1,6 @@
 -- What a book's list can be, whatever the calls were: one frame for each kind (`history-single`) and one form of each setting
 -- (`history-forms`); so it always opens (`history-opens`), a full book's bytes hold all (`history-most`, `never-full`), and
--- the longest reel's take any replay (`replay-most`). `sizes` has the numbers.
+-- the longest reel's take any replay (`replay-most`). `book-sizes` has the numbers.
 -- Assumes nothing.
 use mathlib.Core.Path.{ap, refl, sym, _∙_, _≡_}
 use mathlib.Core.Bool.{Bool, cond, false, false≢true, true}
@@ -35,9 +35,9 @@ use Rattle.book.proofs.Telling.{reel-length}
 
 -- Where a made book's frames start, the most bytes that a buffer has, the most bytes and frames of a list, and with them the full book and the longest
 -- reel (REFERENCE, "Book").
-pub sizes : (ours .version ≡ 1) × (start (ours .slots) ≡ 62) × (longest ≡ 4096) × (mostBytes ≡ 169) × (mostFrames ≡ 26) × (fullBook ≡ 231)
+pub book-sizes : (ours .version ≡ 1) × (start (ours .slots) ≡ 62) × (longest ≡ 4096) × (mostBytes ≡ 169) × (mostFrames ≡ 26) × (fullBook ≡ 231)
     × (longestReel ≡ 195)
-sizes = (refl, refl, refl, refl, refl, refl, refl)
+book-sizes = (refl, refl, refl, refl, refl, refl, refl)
 
 -- ---- one frame for each kind
 

@@ -2,7 +2,7 @@
 -- that no book that opens holds one (`opened-sync-word`).
 -- Assumes nothing.
 use mathlib.Core.Path.{_∙_, _≡_}
-use mathlib.Core.Bool.{false, true}
+use mathlib.Core.Bool.{false}
 use mathlib.Core.List.{List}
 use mathlib.Core.Logic.{⊎-elim}
 use Prim.Native.Nat.{ℕ, _+_, _%_, _<_, _≤_}
@@ -22,7 +22,7 @@ use Rattle.book.specs.Book.{Use, layoutIn, openedFor}
 use Rattle.book.specs.History.{Call, after}
 use Rattle.book.proofs.Both.{isMake, ten-first}
 use Rattle.book.proofs.Calls.{opened-judge}
-use Rattle.book.proofs.Versions.{openedFor-opened}
+use Rattle.book.proofs.Versions.{openedFor-opened, slots-least}
 use Rattle.book.proofs.Keeps.{lentTo}
 use Rattle.book.proofs.Laws.{DecodesTo, slot-decodes}
 
@@ -59,8 +59,8 @@ module _ (b : List ℕ) (B : Bytes b) (present : syncWordAt b ≡ 0 → ⊥) whe
           (λ h. omega (arith, byte-at i h, B (syncWordAt b + i))) (le-or-lt 11 i)
 
   small : slotFor 20 < layoutIn b .slots
-  unfolding slotFor layoutIn
-  small = omega arith
+  unfolding slotFor
+  small = omega (arith, slots-least b)
 
   pub opened-sync-word : (u : Use) (fs : List (List ℕ)) → openedFor u b ≡ holds fs → nbBitsAt b ≤ 64
   unfolding f

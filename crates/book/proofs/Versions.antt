@@ -1,11 +1,14 @@
--- A buffer as it is lent: which layout its version has, and what a use finds there (`found-..`). Where a book serves a use, a call is that on its
--- layout (`Serves`, `for-layout`), and else it is turned away (`turned-off`).
+-- A buffer as it is lent: what a use finds there is what its own layout says (`Serves`, `openedFor-..`), and what is edited is of our layout
+-- (`edit-..`). Where a book serves a use a call is that on its layout (`for-layout`), and else it is turned away (`turned-off`). What is proved of
+-- calls elsewhere, a function's contract apart, knows of `layoutIn` and `openedFor` no more than stands here.
 -- Assumes nothing.
 use mathlib.Core.Path.{ap, refl, sym, _∙_, _≡_}
 use mathlib.Core.List.{List}
 use Prim.Native.Nat.{ℕ, _≤_}
+use native.Mathlib.Nat.{le-refl}
 use native.Mathlib.Omega.{arith}
 use Rattle.refusal.specs.declared.Refusal.{Refusal}
+use Rattle.table.specs.Table.{settings}
 use Rattle.contents.specs.Contents.{Contents, Layout, holds, image, refused}
 use Rattle.book.specs.declared.Answer.{Answer}
 use Rattle.book.specs.declared.Answer.the-variants.{Done, Refused}
@@ -20,10 +23,20 @@ pub layout-image : (n : ℕ) (fs : List (List ℕ)) → layoutIn (image ours n f
 unfolding layoutIn
 layout-image n fs = refl
 
+-- no layout has fewer slots
+pub slots-least : (b : List ℕ) → ours .slots ≤ layoutIn b .slots
+unfolding layoutIn
+slots-least b = le-refl (ours .slots)
+
 -- the book is of a layout that serves a use: what the use finds is what the layout says
 pub record Serves (u : Use) (l : Layout) (b : List ℕ) : Type 0 where
   pub layout : layoutIn b ≡ l
   pub opens : openedFor u b ≡ opened l b
+
+-- so does every book that is made
+pub image-serves : (u : Use) (n : ℕ) (fs : List (List ℕ)) → Serves u ours (image ours n fs)
+unfolding layoutIn openedFor
+image-serves u n fs = record { layout = refl; opens = refl }
 
 module _ (b : List ℕ) (n : ℕ) where
   pub openedFor-serves : (u : Use) → Done n ≡ verdict (openedFor u b) → Serves u (layoutIn b) b
@@ -49,6 +62,20 @@ openedFor-opened u b fs e = sym (openedFor-serves b 0 u (sym (ap verdict e)) .op
 -- and what is edited is of our layout
 pub edit-opened : (b : List ℕ) (fs : List (List ℕ)) → openedFor Edit b ≡ holds fs → opened ours b ≡ holds fs
 edit-opened b fs e = sym (edit-serves b 0 (sym (ap verdict e)) .opens) ∙ e
+
+-- which has a slot for each setting
+pub edit-slots : (b : List ℕ) (fs : List (List ℕ)) → openedFor Edit b ≡ holds fs → settings ≤ layoutIn b .slots
+edit-slots b fs e = let o : ours .slots ≡ layoutIn b .slots = ap (λ (l : Layout). l .slots) (sym (edit-serves b 0 (sym (ap verdict e)) .layout)) in omega arith
+
+-- a use is refused as the layout refuses the bytes
+module _ (u : Use) (b : List ℕ) (x : Refusal) where
+  pub openedFor-refuses : opened (layoutIn b) b ≡ refused x → openedFor u b ≡ refused x
+  unfolding openedFor
+  openedFor-refuses e = e
+
+  pub refuses-opened : openedFor u b ≡ refused x → opened (layoutIn b) b ≡ refused x
+  unfolding openedFor
+  refuses-opened e = e
 
 -- ---- calls
 

@@ -2,7 +2,7 @@
 -- Assumes nothing.
 use mathlib.Core.Path.{_≡_}
 use Prim.Native.Nat.{ℕ, _+_}
-use mathlib.Core.Bool.{cond}
+use mathlib.Core.Bool.{Bool, cond, false, true}
 use mathlib.Core.List.{List, []}
 use lib.Dec.{leb}
 use lib.ListN.{length}
@@ -27,10 +27,11 @@ layoutIn b = ours
 abbrev pub roomIn : List ℕ → ℕ
 roomIn b = roomOf (layoutIn b) (length b)
 
--- the bytes of a book that holds every setting in its longer form, and of its reel: no replay is longer
+-- the bytes of a book that holds every setting in its longer form
 abbrev pub fullBook : ℕ
 fullBook = start (ours .slots) + mostBytes
 
+-- the bytes of its reel: no replay is longer
 abbrev pub longestReel : ℕ
 longestReel = mostBytes + mostFrames
 
@@ -49,6 +50,10 @@ opened l b = agreed (judge l b)
 pub data Use : Type 0 where
   Read : Use
   Edit : Use
+
+abbrev pub toRead : Use → Bool
+toRead Read = true
+toRead Edit = false
 
 -- A book as a call finds it, by its bytes alone: every refusal of a whole book stands here, and nowhere else. Both uses find the same.
 unfoldable pub openedFor : Use → List ℕ → Contents

@@ -2,10 +2,11 @@
 -- Assumes nothing.
 use mathlib.Core.Path.{_≡_}
 use Prim.Native.Nat.{ℕ}
+use mathlib.Core.Bool.{Bool, true}
 use mathlib.Core.List.{List, [], _∷_}
 use Rattle.book.specs.declared.Answer.{Answer}
 use Rattle.book.specs.Plain.{Turn, askOn, become, clearOn, putOn, removeOn, replayOn}
-use Rattle.book.specs.Book.{Edit, Outcome, Read, Use, callFor, made, ours}
+use Rattle.book.specs.Book.{Edit, Outcome, Read, Use, callFor, made, ours, toRead}
 
 -- ---- runs, whatever the calls are
 
@@ -51,7 +52,7 @@ pub data Call : Type 0 where
   Clear : Call
   Replay : List ℕ → Call
 
--- what a call wants of a book; a make looks at none
+-- what a call wants of a book; a make asks nothing of one, and counts as an edit
 abbrev pub wants : Call → Use
 wants Make = Edit
 wants (Put f) = Edit
@@ -60,19 +61,23 @@ wants (Ask k o) = Read
 wants Clear = Edit
 wants (Replay o) = Read
 
+-- whether a call only reads
+abbrev pub isRead : Call → Bool
+isRead c = toRead (wants c)
+
 -- calls that only read
 abbrev pub OnlyReads : List Call → Type 0
 OnlyReads [] = Unit {0}
-OnlyReads (c ∷ cs) = (wants c ≡ Read) × OnlyReads cs
+OnlyReads (c ∷ cs) = (isRead c ≡ true) × OnlyReads cs
 
 -- What a call makes of bytes: the contract of each function says just this.
 abbrev pub after : Call → List ℕ → Outcome
 after Make b = made ours b
-after (Put f) b = callFor Edit (putOn f) [] b
-after (Remove k) b = callFor Edit (removeOn k) [] b
-after (Ask k o) b = callFor Read (askOn k) o b
-after Clear b = callFor Edit clearOn [] b
-after (Replay o) b = callFor Read replayOn o b
+after (Put f) b = callFor (wants (Put f)) (putOn f) [] b
+after (Remove k) b = callFor (wants (Remove k)) (removeOn k) [] b
+after (Ask k o) b = callFor (wants (Ask k o)) (askOn k) o b
+after Clear b = callFor (wants Clear) clearOn [] b
+after (Replay o) b = callFor (wants (Replay o)) replayOn o b
 
 -- what it makes of a list, in a room
 unfoldable pub turn : ℕ → Call → List (List ℕ) → Turn

@@ -1,6 +1,6 @@
 // The settings book over a lent buffer, in place: make, put, remove, ask, clear, replay. specs/Plain.antt says what each call does to a
 // plain list of frames, specs/Book.antt what it does to a buffer that holds one; proofs/History.antt has the theorem over every list of calls.
-// Edits take the layout, as reading does, so that a book of another layout can be edited by the same functions.
+// Which layout a book has its bytes say (`slots_in`); the edits in place take the number of its slots.
 ghost use mathlib.Core.Path.{_≡_};
 ghost use mathlib.Core.List.{[]};
 ghost use Prim.Native.Nat.{_+_, _-_, _*_, _<_, _≤_};
@@ -27,19 +27,12 @@ pub enum Answer {
 // The layout that is made and edited: its version, its slots, and where its frames start.
 const VERSION: u8 = 1;
 
-pub const SLOTS: usize = 29;
+const SLOTS: usize = 29;
 
-pub const START: usize = 4 + 2 * SLOTS;
+const START: usize = 4 + 2 * SLOTS;
 
-// The most bytes that a buffer has.
-const LONGEST: usize = 4096;
-
-// The most bytes and the most frames that a book's frames can be, and the longest reel that they make.
-const MOST_BYTES: usize = 169;
-
-const MOST_FRAMES: usize = 26;
-
-pub const LONGEST_REEL: usize = MOST_BYTES + MOST_FRAMES;
+// The longest reel of a book's frames: an output of so many bytes takes every replay.
+pub const LONGEST_REEL: usize = forms::MOST_BYTES + forms::MOST_FRAMES;
 
 fn byte_to_usize(x: u8) -> usize
     ensures { λ r. ⌜ (r ≡ x) × (r < 256) ⌝ }
@@ -69,7 +62,7 @@ fn is_sound(book: &[u8], version: u8, slots: usize) -> Answer
     }
 }
 
-// Whether the bytes are a book that can be read: every refusal of a whole book is given here, or in the next.
+// Whether the bytes are a book that can be read. Every refusal of a whole book is given by this function or the next.
 pub fn ready_to_read(book: &[u8]) -> Answer
     ensures { λ r. ⌜ r ≡ verdict (openedFor Read (now (book .entry))) ⌝ }
 {
@@ -205,7 +198,7 @@ pub fn make(book: &mut [u8]) -> Answer
     if book.len() < START {
         return Answer::Refused(Refusal::BufferSize);
     }
-    if book.len() > LONGEST {
+    if book.len() > contents::LONGEST {
         return Answer::Refused(Refusal::BufferSize);
     }
     filling::blank(book, VERSION, SLOTS);

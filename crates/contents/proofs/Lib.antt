@@ -1,4 +1,5 @@
 pub mod Shape
+pub mod Lists
 pub mod Headers
 pub mod Loops
 pub mod Judged

@@ -1,15 +1,15 @@
 -- The offsets that a header of so many slots has (`offset-among`, `offset-outside`): they tell which slots of its list are held (`present-tells`).
 -- Assumes nothing.
-use mathlib.Core.Path.{ap, refl, _∙_, _≡_}
-use mathlib.Core.Bool.{Bool, false, not, true}
+use mathlib.Core.Path.{refl, _∙_, _≡_}
+use mathlib.Core.Bool.{Bool, false, true}
 use mathlib.Core.List.{List, [], _∷_}
 use Prim.Native.Nat.{ℕ, _<_, _≤_}
 use native.Mathlib.Omega.{arith}
 use borrow.Author.Tests.{eq-eqb, le-ltb, lt-ltb, ltb-false, ltb-true, ne-eqb}
-use lib.Dec.{eqb, ltb}
+use lib.Dec.{ltb}
 use lib.ListN.{getD}
 use Rattle.settings.specs.Settings.{slotOf}
-use Rattle.contents.specs.Frames.{held, place}
+use Rattle.contents.specs.Frames.{held}
 use Rattle.contents.specs.Contents.{Layout, holds, judge, offsetAt, offsetFor, presentFor, start, wordAt}
 use Rattle.contents.proofs.Shape.{Within, place-ge, place-none}
 use Rattle.contents.proofs.Judged.{Tiled, framesFrom-tiled, judge-reads, offsets}

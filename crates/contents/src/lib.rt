@@ -16,7 +16,7 @@ pub enum Verdict {
 }
 
 // The most bytes that a buffer has, and the most slots that it has offsets for.
-const LONGEST: usize = 4096;
+pub const LONGEST: usize = 4096;
 
 const MOST_SLOTS: usize = (LONGEST - 4) / 2;
 

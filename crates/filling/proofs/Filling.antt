@@ -1,9 +1,9 @@
 -- What is left where a filling is done, and where it is not: the empty book (`blanked-image`, `blanked-left`), a frame behind the others
--- (`append-image`, `appended-left`), and the frames of a list, of which a blank book then is the image (`fill-image`); a buffer that no such book fits is
--- left as it was (`fill-left`).
+-- (`append-image`, `appended-left`, `appended-none`), and the frames of a list, of which a blank book then is the image (`fill-image`, `fill-reel`); a
+-- buffer that no such book fits is left as it was (`fill-left`).
 -- Assumes nothing.
 use mathlib.Core.Path.{ap, ap₂, refl, subst, sym, _∙_, _≡_}
-use mathlib.Core.Bool.{Bool, cond, false, false≢true, true, _&&_}
+use mathlib.Core.Bool.{Bool, false, false≢true, true, _&&_}
 use mathlib.Core.List.{List, [], append-assoc, append-nil, _++_, _∷_}
 use Prim.Native.Nat.{ℕ, _*_, _+_, _-_, _<_, _≤_}
 use native.Mathlib.Omega.{arith}
@@ -13,18 +13,19 @@ use lib.ListN.{drop, drop-of-length-le, getD, length, length-append, length-set,
 use lib.Seq.{length-paste, paste}
 use Rattle.spans.specs.Spans.{setWord, stored, written}
 use Rattle.spans.proofs.Spans.{stored-fits, written-fits}
+use Rattle.table.specs.Table.{settings}
 use Rattle.settings.specs.Settings.{slotOf}
 use Rattle.contents.specs.Frames.{flat, held}
 use Rattle.contents.specs.Contents.{Layout, image, longest, roomOf, start, wordAt}
 use Rattle.contents.proofs.Shape.{Sound, Within}
 use Rattle.contents.proofs.Written.{image-count, image-end, image-length}
 use Rattle.reel.specs.declared.Cursor.{Cursor}
-use Rattle.reel.specs.Reel.{Unreeled, unreel}
-use Rattle.reel.proofs.Reels.{unreel-nil}
+use Rattle.reel.specs.Reel.{Unreeled, reelOf, unreel}
+use Rattle.reel.proofs.Reels.{reel-whole, unreel-nil}
 use Rattle.reel.proofs.Found.{Whole}
-use Rattle.filling.specs.Filling.{appended, appendedAll, appendedTo, blanked, filledBy, hasRoom, sizedFor}
+use Rattle.filling.specs.Filling.{appended, appendedAll, appendedTo, blanked, filledBy, hasRoom, mostCounted, sizedFor}
 use Rattle.filling.proofs.Pieces.{length-setWord}
-use Rattle.filling.proofs.Lists.{flat-split, length-one, sound-middle, within-middle}
+use Rattle.contents.proofs.Lists.{flat-split, sound-middle, within-middle}
 use Rattle.filling.proofs.Images.{app-image}
 
 either : (t : Bool) → t && false ≡ false
@@ -81,33 +82,46 @@ module _ (l : Layout) (b : List ℕ) where
 
 -- what it is to have room, in numbers
 pub record Room (m s n : ℕ) (b : List ℕ) : Type 0 where
+  pub setting : s < settings
   pub among : s < m
   pub small : start m ≤ length b
   pub big : length b ≤ longest
   pub low : start m ≤ wordAt b 2
   pub high : wordAt b 2 + n ≤ length b
-  pub few : getD b 1 0 < 255
+  pub few : getD b 1 0 < mostCounted
 
 module _ (m s n : ℕ) (b : List ℕ) where
   pub room-has : Room m s n b → hasRoom m s n b ≡ true
   unfolding hasRoom
-  room-has R = rw (lt-ltb _ _ (R .among), sized-fits m (length b) (R .small) (R .big), le-leb _ _ (R .low), le-leb _ _ (R .high), lt-ltb _ _ (R .few))
+  room-has R =
+      rw (
+        lt-ltb _ _ (R .setting),
+        lt-ltb _ _ (R .among),
+        sized-fits m (length b) (R .small) (R .big),
+        le-leb _ _ (R .low),
+        le-leb _ _ (R .high),
+        lt-ltb _ _ (R .few),
+      )
 
   pub has-room : hasRoom m s n b ≡ true → Room m s n b
   unfolding hasRoom
   has-room e =
-      by (ltb s m) refl (sizedFor m (length b)) refl (leb (start m) (wordAt b 2)) refl (leb (wordAt b 2 + n) (length b)) refl (ltb (getD b 1 0) 255) refl e
+      by (ltb s settings) refl (ltb s m) refl (sizedFor m (length b)) refl (leb (start m) (wordAt b 2)) refl (leb (wordAt b 2 + n) (length b)) refl
+      (ltb (getD b 1 0) mostCounted) refl e
     where
-      by : (x : Bool) → ltb s m ≡ x → (y : Bool) → sizedFor m (length b) ≡ y → (z : Bool) → leb (start m) (wordAt b 2) ≡ z
-          → (u : Bool) → leb (wordAt b 2 + n) (length b) ≡ u → (v : Bool) → ltb (getD b 1 0) 255 ≡ v → x && (y && (z && (u && v))) ≡ true → Room m s n b
-      by false p y q z r u g v h e = absurd (false≢true e)
-      by true p false q z r u g v h e = absurd (false≢true e)
-      by true p true q false r u g v h e = absurd (false≢true e)
-      by true p true q true r false g v h e = absurd (false≢true e)
-      by true p true q true r true g false h e = absurd (false≢true e)
-      by true p true q true r true g true h e =
+      by : (w : Bool) → ltb s settings ≡ w → (x : Bool) → ltb s m ≡ x → (y : Bool) → sizedFor m (length b) ≡ y → (z : Bool)
+          → leb (start m) (wordAt b 2) ≡ z → (u : Bool) → leb (wordAt b 2 + n) (length b) ≡ u → (v : Bool) → ltb (getD b 1 0) mostCounted ≡ v
+          → w && (x && (y && (z && (u && v)))) ≡ true → Room m s n b
+      by false o x p y q z r u g v h e = absurd (false≢true e)
+      by true o false p y q z r u g v h e = absurd (false≢true e)
+      by true o true p false q z r u g v h e = absurd (false≢true e)
+      by true o true p true q false r u g v h e = absurd (false≢true e)
+      by true o true p true q true r false g v h e = absurd (false≢true e)
+      by true o true p true q true r true g false h e = absurd (false≢true e)
+      by true o true p true q true r true g true h e =
           let size = sized-means m (length b) q in
           record {
+            setting = ltb-true _ _ o;
             among = ltb-true _ _ p;
             small = size .0;
             big = size .1;
@@ -152,38 +166,58 @@ module _ (m s : ℕ) (f b : List ℕ) where
 
 -- test after test
 module _ (m s n : ℕ) (b : List ℕ) where
-  pub room-slot : m ≤ s → false ≡ hasRoom m s n b
+  pub room-none : settings ≤ s → false ≡ hasRoom m s n b
   unfolding hasRoom
-  room-slot a = rw (le-ltb _ _ a)
+  room-none a = rw (le-ltb _ _ a)
 
-  module _ (a : s < m) where
-    pub room-size : sizedFor m (length b) ≡ false → false ≡ hasRoom m s n b
+  module _ (own : s < settings) where
+    pub room-slot : m ≤ s → false ≡ hasRoom m s n b
     unfolding hasRoom
-    room-size e = rw (lt-ltb _ _ a, e)
+    room-slot a = rw (lt-ltb _ _ own, le-ltb _ _ a)
 
-    module _ (e : sizedFor m (length b) ≡ true) where
-      pub room-low : wordAt b 2 < start m → false ≡ hasRoom m s n b
+    module _ (a : s < m) where
+      pub room-size : sizedFor m (length b) ≡ false → false ≡ hasRoom m s n b
       unfolding hasRoom
-      room-low h = rw (lt-ltb _ _ a, e, lt-leb _ _ h)
+      room-size e = rw (lt-ltb _ _ own, lt-ltb _ _ a, e)
 
-      module _ (h : start m ≤ wordAt b 2) where
-        pub room-high : length b < wordAt b 2 + n → false ≡ hasRoom m s n b
+      module _ (e : sizedFor m (length b) ≡ true) where
+        pub room-low : wordAt b 2 < start m → false ≡ hasRoom m s n b
         unfolding hasRoom
-        room-high k = rw (lt-ltb _ _ a, e, le-leb _ _ h, lt-leb _ _ k)
+        room-low h = rw (lt-ltb _ _ own, lt-ltb _ _ a, e, lt-leb _ _ h)
 
-        pub room-count : wordAt b 2 + n ≤ length b → ltb (getD b 1 0) 255 ≡ hasRoom m s n b
-        unfolding hasRoom
-        room-count k = rw (lt-ltb _ _ a, e, le-leb _ _ h, le-leb _ _ k)
+        module _ (h : start m ≤ wordAt b 2) where
+          pub room-high : length b < wordAt b 2 + n → false ≡ hasRoom m s n b
+          unfolding hasRoom
+          room-high k = rw (lt-ltb _ _ own, lt-ltb _ _ a, e, le-leb _ _ h, lt-leb _ _ k)
+
+          pub room-count : wordAt b 2 + n ≤ length b → ltb (getD b 1 0) mostCounted ≡ hasRoom m s n b
+          unfolding hasRoom
+          room-count k = rw (lt-ltb _ _ own, lt-ltb _ _ a, e, le-leb _ _ h, le-leb _ _ k)
+
+-- nor has a buffer that is none of such a header
+unsized : (m s n : ℕ) (b : List ℕ) → sizedFor m (length b) ≡ false → hasRoom m s n b ≡ false
+unfolding hasRoom
+unsized m s n b e = rw e (by (ltb s settings) (ltb s m))
+  where
+    by : (x y : Bool) → x && (y && false) ≡ false
+    by false y = refl
+    by true false = refl
+    by true true = refl
+
+-- what is no setting's slot is left out
+pub appended-none : (m s : ℕ) (f b : List ℕ) → settings ≤ s → appendedTo m s f b ≡ b
+appended-none m s f b a = appended-left m s f b (sym (room-none m s (length f) b a))
 
 -- behind the frames of a list that has none of its slot: the book of the list with the frame at its end
-pub append-image : (l : Layout) (n : ℕ) (f : List ℕ) (fs : List (List ℕ)) → n ≤ longest → held (slotOf f) fs ≡ false → slotOf f < l .slots
-    → length fs < 255 → start (l .slots) + length (flat fs) + length f ≤ n
+pub append-image : (l : Layout) (n : ℕ) (f : List ℕ) (fs : List (List ℕ)) → n ≤ longest → slotOf f < settings → held (slotOf f) fs ≡ false
+    → slotOf f < l .slots → length fs < mostCounted → start (l .slots) + length (flat fs) + length f ≤ n
     → appendedTo (l .slots) (slotOf f) f (image l n fs) ≡ image l n (fs ++ (f ∷ []))
 unfolding appended
-append-image l n f fs big new among few room =
+append-image l n f fs big own new among few room =
     let long : length (image l n fs) ≡ n = image-length l n fs (omega arith) in
     appended-fits (l .slots) (slotOf f) f (image l n fs)
     (record {
+      setting = own;
       among = among;
       small = omega (arith, long);
       big = omega (arith, long);
@@ -197,33 +231,41 @@ append-image l n f fs big new among few room =
 
 module _ (l : Layout) where
   -- each behind the one before, while none comes twice
-  all-image : (n : ℕ) → n ≤ longest → (xs ys : List (List ℕ)) → Sound (xs ++ ys) → Within (l .slots) (xs ++ ys) → length (xs ++ ys) ≤ 255
+  all-image : (n : ℕ) → n ≤ longest → (xs ys : List (List ℕ)) → Sound (xs ++ ys) → Within (l .slots) (xs ++ ys) → length (xs ++ ys) ≤ mostCounted
       → start (l .slots) + length (flat (xs ++ ys)) ≤ n → appendedAll (l .slots) ys (image l n xs) ≡ image l n (xs ++ ys)
   unfolding appendedAll flat
   all-image n big xs [] s w few room = ap (image l n) (sym (append-nil xs))
   all-image n big xs (f ∷ ys) s w few room =
       let same : (xs ++ (f ∷ [])) ++ ys ≡ xs ++ (f ∷ ys) = append-assoc xs (f ∷ []) ys in
       let size = ap length (flat-split xs (f ∷ ys)) ∙ length-append (flat xs) (f ++ flat ys) in
-      ap (appendedAll (l .slots) ys) (append-image l n f xs big (sound-middle xs f ys s .1) (within-middle (l .slots) xs f ys w)
+      ap (appendedAll (l .slots) ys) (append-image l n f xs big (sound-middle xs f ys s .0) (sound-middle xs f ys s .1) (within-middle (l .slots) xs f ys w)
       (omega (arith, length-append xs (f ∷ ys))) (omega (arith, size, length-append f (flat ys))))
       ∙ all-image n big (xs ++ (f ∷ [])) ys (subst Sound (sym same) s) (subst (Within (l .slots)) (sym same) w)
-      (subst (λ (gs : List (List ℕ)). length gs ≤ 255) (sym same) few) (subst (λ (gs : List (List ℕ)). start (l .slots) + length (flat gs) ≤ n) (sym same) room)
+      (subst (λ (gs : List (List ℕ)). length gs ≤ mostCounted) (sym same) few)
+      (subst (λ (gs : List (List ℕ)). start (l .slots) + length (flat gs) ≤ n) (sym same) room)
       ∙ ap (image l n) same
 
   module _ (b : List ℕ) where
     -- A BLANK BOOK FILLED WITH A LIST IS THE LIST'S IMAGE, whatever the bytes were: each frame a setting's with a slot there, none twice, and room for all
-    pub fill-image : start (l .slots) ≤ length b → length b ≤ longest → (fs : List (List ℕ)) → Sound fs → Within (l .slots) fs → length fs ≤ 255
+    pub fill-image : start (l .slots) ≤ length b → length b ≤ longest → (fs : List (List ℕ)) → Sound fs → Within (l .slots) fs → length fs ≤ mostCounted
         → length (flat fs) ≤ roomOf l (length b) → filledBy l fs b ≡ image l (length b) fs
     unfolding filledBy
     fill-image small big fs s w few room =
         ap (appendedAll (l .slots) fs) (blanked-image l b small big)
         ∙ all-image (length b) big [] fs s w few (omega arith)
 
+    -- the same of the reel that the list makes
+    pub fill-reel : start (l .slots) ≤ length b → length b ≤ longest → (fs : List (List ℕ)) → Sound fs → Within (l .slots) fs → length fs ≤ mostCounted
+        → length (flat fs) ≤ roomOf l (length b) → filledBy l (unreel (reelOf fs) .frames) b ≡ image l (length b) fs
+    fill-reel small big fs s w few room =
+        ap (λ (u : Unreeled). filledBy l (u .frames) b) (reel-whole fs) ∙ fill-image small big fs s w few room
+
     -- what is no buffer of such a book is left as it was
     all-left : sizedFor (l .slots) (length b) ≡ false → (fs : List (List ℕ)) → appendedAll (l .slots) fs b ≡ b
-    unfolding appendedAll hasRoom
+    unfolding appendedAll
     all-left e [] = refl
-    all-left e (f ∷ fs) = ap (appendedAll (l .slots) fs) (appended-left (l .slots) (slotOf f) f b (rw e (either (ltb (slotOf f) (l .slots))))) ∙ all-left e fs
+    all-left e (f ∷ fs) =
+        ap (appendedAll (l .slots) fs) (appended-left (l .slots) (slotOf f) f b (unsized (l .slots) (slotOf f) (length f) b e)) ∙ all-left e fs
 
     pub fill-left : (fs : List (List ℕ)) → sizedFor (l .slots) (length b) ≡ false → filledBy l fs b ≡ b
     unfolding filledBy

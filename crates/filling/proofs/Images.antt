@@ -14,8 +14,8 @@ use Rattle.settings.specs.Settings.{slotOf}
 use Rattle.contents.specs.Frames.{flat, held, place}
 use Rattle.contents.specs.Contents.{Layout, header, image, start, words}
 use Rattle.contents.proofs.Headers.{header-length}
-use Rattle.filling.proofs.Pieces.{drop-replicate, length-setWord, paste-left, paste-right, setWord-left, setWord-skip, words-set}
-use Rattle.filling.proofs.Lists.{flat-append, length-one}
+use Rattle.filling.proofs.Pieces.{drop-replicate, length-setWord, paste-right, setWord-left, setWord-skip, words-set}
+use Rattle.contents.proofs.Lists.{flat-append, length-one}
 
 -- ---- the empty book
 
@@ -63,7 +63,7 @@ blank-image l b h =
 
 -- ---- one frame more
 
-pub place-append : (p : ℕ) (fs : List (List ℕ)) (f : List ℕ) → held (slotOf f) fs ≡ false → place p (fs ++ (f ∷ [])) (slotOf f) ≡ p + length (flat fs)
+place-append : (p : ℕ) (fs : List (List ℕ)) (f : List ℕ) → held (slotOf f) fs ≡ false → place p (fs ++ (f ∷ [])) (slotOf f) ≡ p + length (flat fs)
 unfolding place held flat
 place-append p [] f h = ap (λ (t : Bool). cond t p 0) (eq-eqb (slotOf f) (slotOf f) refl) ∙ e p
   where
@@ -77,7 +77,7 @@ place-append p (g ∷ fs) f h = go (place-append (p + length g) fs f) (eqb (slot
     go ih true q = absurd (false≢true (sym q))
     go ih false q = omega (arith, ih q, length-append g (flat fs))
 
-pub place-other : (p : ℕ) (fs : List (List ℕ)) (f : List ℕ) (j : ℕ) → (slotOf f ≡ j → ⊥) → place p (fs ++ (f ∷ [])) j ≡ place p fs j
+place-other : (p : ℕ) (fs : List (List ℕ)) (f : List ℕ) (j : ℕ) → (slotOf f ≡ j → ⊥) → place p (fs ++ (f ∷ [])) j ≡ place p fs j
 unfolding place
 place-other p [] f j n = ap (λ (t : Bool). cond t p 0) (ne-eqb (slotOf f) j n)
 place-other p (g ∷ fs) f j n = ap (λ (x : ℕ). cond (eqb (slotOf g) j) p x) (place-other (p + length g) fs f j n)

@@ -8,6 +8,7 @@ use lib.Dec.{leb, ltb}
 use lib.ListN.{length, getD, set}
 use lib.Seq.{paste}
 use Rattle.spans.specs.Spans.{setWord}
+use Rattle.table.specs.Table.{settings}
 use Rattle.settings.specs.Settings.{slotOf}
 use Rattle.contents.specs.Contents.{Layout, image, longest, start, wordAt}
 
@@ -23,11 +24,16 @@ blanked l b = cond (sizedFor (l .slots) (length b)) (image l (length b) []) b
 unfoldable pub appended : List ℕ → List ℕ → ℕ → ℕ → List ℕ
 appended b f s e = setWord (setWord (set (paste b e f (length f)) 1 (getD b 1 0 + 1)) 2 (e + length f)) (4 + 2 * s) e
 
--- n bytes of the slot s have room behind the frames: the header has the slot and says where they end, and its count can be one more
+-- the most frames that a header's count can say
+abbrev pub mostCounted : ℕ
+mostCounted = 255
+
+-- n bytes of the slot s have room behind the frames: it is a setting's, the header has it and says where they end, and its count can be one more
 unfoldable pub hasRoom : ℕ → ℕ → ℕ → List ℕ → Bool
 hasRoom m s n b =
-    ltb s m
-    && (sizedFor m (length b) && (leb (start m) (wordAt b 2) && (leb (wordAt b 2 + n) (length b) && ltb (getD b 1 0) 255)))
+    ltb s settings
+    && (ltb s m
+    && (sizedFor m (length b) && (leb (start m) (wordAt b 2) && (leb (wordAt b 2 + n) (length b) && ltb (getD b 1 0) mostCounted))))
 
 -- the frame behind the others, where it has room
 unfoldable pub appendedTo : ℕ → ℕ → List ℕ → List ℕ → List ℕ

@@ -9,10 +9,8 @@ ghost use Rattle.filling.specs.Filling.{appendedTo, blanked, filledBy, h
 use reel::Cursor;
 use reel::Step;
 
-// The most bytes that a buffer has, and the most frames that a header counts.
-const LONGEST: usize = 4096;
-
-const MOST_FRAMES: u8 = 255;
+// The most frames that a header's count can say.
+const MOST_COUNTED: u8 = 255;
 
 fn byte_to_usize(x: u8) -> usize
     ensures { λ r. ⌜ (r ≡ x) × (r < 256) ⌝ }
@@ -24,7 +22,7 @@ fn byte_to_usize(x: u8) -> usize
 fn is_sized(len: usize, slots: usize) -> bool
     ensures { λ r. ⌜ r ≡ sizedFor slots len ⌝ }
 {
-    if len > LONGEST {
+    if len > contents::LONGEST {
         return false;
     }
     if slots > len {
@@ -45,10 +43,13 @@ pub fn blank(b: &mut [u8], version: u8, slots: usize)
     }
 }
 
-// Whether n bytes of a slot have room behind the frames, as the header says where these end.
+// Whether n bytes of a setting's slot have room behind the frames, as the header says where these end.
 fn has_room(b: &[u8], slots: usize, slot: usize, n: usize) -> bool
     ensures { λ r. ⌜ r ≡ hasRoom slots slot n (now (b .entry)) ⌝ }
 {
+    if slot >= table::SETTINGS {
+        return false;
+    }
     if slot >= slots {
         return false;
     }
@@ -63,7 +64,7 @@ fn has_room(b: &[u8], slots: usize, slot: usize, n: usize) -> bool
         if b.len() - e < n {
             return false;
         }
-        return b[1] < MOST_FRAMES;
+        return b[1] < MOST_COUNTED;
     }
     false
 }

@@ -1,13 +1,11 @@
 -- Nothing is cut on its way to C. Assumes nothing.
 use mathlib.Core.Path.{_≡_, refl, sym, ap, _∙_, subst}
-use mathlib.Core.Bool.{Bool, true, false, cond}
 use mathlib.Core.List.{List, [], _∷_, _++_}
-use Prim.Native.Nat.{ℕ, zero, suc, _+_, _-_, _≤_, _<_}
+use Prim.Native.Nat.{ℕ, suc, _+_, _-_, _≤_, _<_}
 use native.Mathlib.Omega.{arith}
 use lib.IntN.{ℤ, pos, negsuc, natAbs}
 use lib.Signed.{mag}
-use lib.Dec.{eqb, ltb, leb}
-use lib.ListN.{length, getD, take, drop, replicate, length-take, length-append, length-replicate}
+use lib.ListN.{length, take, replicate, length-take, length-append, length-replicate}
 use lib.Seq.{take-all, take-take, take-append-seam}
 use Rattle.reading.specs.declared.Text.{Text}
 use Rattle.reading.specs.Level.{textOf}

@@ -25,16 +25,16 @@ use Rattle.contents.specs.Frames.{flat, held}
 use Rattle.reel.specs.Reel.{reelOf}
 use Rattle.forms.specs.Forms.{other, otherIn}
 use Rattle.forms.proofs.Forms.{other-other}
+use Rattle.contents.specs.Contents.{longest, roomOf, start}
 use Rattle.book.specs.declared.Answer.{Answer}
 use Rattle.book.specs.declared.Answer.the-variants as book
+use Rattle.book.specs.Book.{Read, ours}
 use Rattle.book.specs.Plain.{Turn, askOn, become, clearOn, frameOf, placed, putOn, refuse, removeOn, replayOn, tell, without}
 use Rattle.book.specs.History.{Ask, BytesRun, Call, Clear, Heard, Make, Put, Remove, Replay, after, onBytes, onList, turn}
 use Rattle.book.proofs.Kept.{Kept, empty-kept, tell-frames, turn-kept}
 use Rattle.book.proofs.Laws.{frame-slot, placed-newest, placed-others, without-gone, without-others}
 use Rattle.book.proofs.Placed.{placed-gone}
 use Rattle.book.proofs.History.{history-ours}
-use Rattle.contents.specs.Contents.{longest, roomOf, start}
-use Rattle.book.specs.Book.{Read, ours}
 use Rattle.book.proofs.Single.{history-opens}
 use Rattle.locker_profile.specs.declared.Answer.the-variants.{Refused, Yes}
 use Rattle.locker_profile.specs.Rules.{rules}

@@ -51,9 +51,9 @@ fn say_frames(reel: &[u8], line: &mut [u8]) -> bool {
     true
 }
 
-// The frames that the book holds; no reel of a book is longer than 195 bytes.
+// The frames that the book holds; no reel of a book is longer.
 fn say_book(book: &[u8], line: &mut [u8]) -> bool {
-    let mut reel = [0u8; 512];
+    let mut reel = [0u8; book::LONGEST_REEL];
     let answer = book::replay(book, &mut reel);
     let Answer::Done(n) = answer else {
         return true;

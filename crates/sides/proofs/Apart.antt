@@ -11,26 +11,24 @@ use borrow.Author.Tests.{eqb-true}
 use lib.Dec.{eqb}
 use lib.ListN.{length}
 use Rattle.refusal.specs.declared.Refusal.the-variants.{OwnersWrong}
-use Rattle.reel.specs.Reel.{reelOf}
-use Rattle.table.specs.Table.{settings}
 use Rattle.contents.specs.Frames.{flat}
 use Rattle.contents.specs.Contents.{longest, roomOf, start}
 use Rattle.owners.specs.Owners.{OwnerTable, isSide, quotaOf, tableRight}
 use Rattle.settings.proofs.Settings.{both}
 use Rattle.book.specs.declared.Answer.{Answer}
 use Rattle.book.specs.declared.Answer.the-variants.{Done, Refused}
-use Rattle.book.specs.Plain.{Turn, refuse, replayOn}
+use Rattle.book.specs.Plain.{Turn, refuse}
 use Rattle.book.specs.Book.{made, ours}
-use Rattle.book.specs.History.{BytesRun, Call, Heard, onBytes, onList, turn}
+use Rattle.book.specs.History.{BytesRun, Call, Heard, isRead, onBytes, onList, turn}
 use Rattle.book.specs.History as whole
-use Rattle.book.proofs.Kept.{tell-frames}
+use Rattle.book.proofs.Reading.{read-frames}
 use Rattle.sides.specs.Parts.{chosen, partOf, withinQuotas}
 use Rattle.sides.specs.Calls.{mayCall, ownTurn}
 use Rattle.sides.specs.Histories.{Event, Side, SideCall, Whole, afterEvent, alone, answered, byTwoLists, bySides}
-use Rattle.sides.specs.Histories.{callsOf, heardBy, heardOf, isRead, jointly}
+use Rattle.sides.specs.Histories.{callsOf, heardBy, heardOf, jointly}
 use Rattle.sides.specs.Histories.{ownAfter, sharedBy}
 use Rattle.sides.proofs.Quotas.{by-side, own-stays, quotas-within, side-within, within-quota}
-use Rattle.sides.proofs.History.{ask-frames, shared-history, side-history}
+use Rattle.sides.proofs.History.{shared-history, side-history}
 
 module _ (m room : ℕ) (t : OwnerTable) where
   -- ---- one event, on two lists
@@ -181,15 +179,6 @@ module _ (t : OwnerTable) where
 -- ---- the quotas
 
 module _ (m room : ℕ) (t : OwnerTable) where
-  read-frames : (c : Call) → isRead c ≡ true → (fs : List (List ℕ)) → turn room c fs .frames ≡ fs
-  unfolding turn replayOn
-  read-frames whole.Make e fs = absurd (false≢true e)
-  read-frames (whole.Put f) e fs = absurd (false≢true e)
-  read-frames (whole.Remove k) e fs = absurd (false≢true e)
-  read-frames (whole.Ask k o) e fs = ask-frames k o room fs
-  read-frames whole.Clear e fs = absurd (false≢true e)
-  read-frames (whole.Replay o) e fs = tell-frames (reelOf fs) o fs
-
   abbrev Fits : List (List ℕ) → Type 0
   Fits fs = withinQuotas t (partOf t 1 fs) (partOf t 2 fs) ≡ true
 
@@ -199,7 +188,7 @@ module _ (m room : ℕ) (t : OwnerTable) where
   stays (Side c ∷ es) fs s h = stays es (jointly m room t (Side c) fs .frames) s (side-within m room t fs h (c .who) (c .what) (c .output))
   stays (Whole c ∷ es) fs s h =
       let r = both (isRead c) (bySides es) s in
-      stays es (turn room c fs .frames) (r .1) (subst Fits (sym (read-frames c (r .0) fs)) h)
+      stays es (turn room c fs .frames) (r .1) (subst Fits (sym (read-frames room c (r .0) fs)) h)
 
   -- BY THE SIDES' CALLS ALONE NEITHER SIDE EVER EXCEEDS ITS QUOTA, over every list of events from the empty list
   pub never-over : (es : List Event) → bySides es ≡ true

@@ -8,7 +8,7 @@ use Prim.Native.Nat.{suc, zero, ℕ, _+_, _-_, _<_, _≤_}
 use native.Mathlib.Omega.{arith}
 use borrow.Author.Tests.{eq-eqb, le-leb, lt-leb, lt-ltb, ltb-true}
 use lib.Dec.{eqb, leb, ltb}
-use lib.ListN.{drop, length, length-append, take}
+use lib.ListN.{drop, length, take}
 use Rattle.refusal.specs.declared.Refusal.{Refusal}
 use Rattle.refusal.specs.declared.Refusal.the-variants.{NoRoom, NotAKind, NotHeld, OtherSide, OutputShort, OwnersWrong}
 use Rattle.reel.specs.Reel.{Unreeled, reelOf}
@@ -27,9 +27,10 @@ use Rattle.book.specs.declared.Answer.the-variants.{Done, Refused}
 use Rattle.book.specs.Plain.{Turn, askOn, become, clearOn, placed, putOn, refuse, removeOn, replayOn, tell, without}
 use Rattle.book.specs.Book.{Edit, Outcome, Permits, Read, Tells, Use, callFor, layoutIn, longestReel, onContents, opened, openedFor, ours, roomIn, verdict}
 use Rattle.book.proofs.Calls.{done-refused, opened-bytes, opened-judge, present-held}
-use Rattle.book.proofs.Versions.{edit-opened, edit-serves, openedFor-opened, turned-off}
+use Rattle.book.proofs.Versions.{edit-opened, edit-serves, edit-slots, openedFor-opened, turned-off}
 use Rattle.book.proofs.Kept.{Kept, opened-kept, remove-kept}
 use Rattle.book.proofs.History.{for-image}
+use Rattle.book.proofs.Reading.{stays}
 use Rattle.book.proofs.Told.{replay-refused}
 use Rattle.sides.specs.Parts.{chosen, partOf, restOf, withinQuotas}
 use Rattle.sides.specs.Calls.{Ask, Clear, Put, Remove, Replay, Request, barred, foreign, mayCall, named, sideCall, sideOn, wantsOf}
@@ -64,10 +65,6 @@ read-may : (t : OwnerTable) (w : ℕ) (b : List ℕ) (fs : List (List ℕ)) → 
 unfolding mayRead mayCall withinQuotas
 read-may t w b fs h =
     rw (weight-is (layoutIn b) b fs h (owns (t .owners) 1), weight-is (layoutIn b) b fs h (owns (t .owners) 2))
-
--- what is edited has a slot for each setting
-edit-slots : (b : List ℕ) (fs : List (List ℕ)) → openedFor Edit b ≡ holds fs → layoutIn b .slots ≡ ours .slots
-edit-slots b fs h = ap (λ (l : Layout). l .slots) (edit-serves b 0 (sym (ap verdict h)) .layout)
 
 -- a refusal behind what was found of a book is one behind the book's own
 pub own-first : (u : Use) (b : List ℕ) (why : Refusal) (found a : Answer) → a ≡ behind found why → found ≡ verdict (openedFor u b)
@@ -115,14 +112,12 @@ module _ (t : OwnerTable) (w : ℕ) (b : List ℕ) (B : Bytes b) where
   -- a step that refuses and keeps the frames keeps the bytes
   kept-away : (u : Use) (s : List ℕ → ℕ → List (List ℕ) → Turn) (o : List ℕ) (fs : List (List ℕ)) (x : Refusal) → openedFor u b ≡ holds fs
       → s o (roomIn b) fs ≡ refuse x o fs → Gives u s o b (Refused x) o b
-  unfolding callFor
   kept-away u s o fs x h e =
+      let k = stays u b B fs h s o (ap (λ (y : Turn). y .frames) e) in
       record {
-        answer = rw h (ap (λ (y : Turn). y .answer) (sym e));
-        output = rw h (ap (λ (y : Turn). y .output) (sym e));
-        bytes =
-            rw h
-            (opened-bytes (layoutIn b) b fs B (openedFor-opened u b fs h) ∙ ap (λ (y : Turn). image (layoutIn b) (length b) (y .frames)) (sym e));
+        answer = sym (ap (λ (y : Outcome). y .answer) k ∙ ap (λ (y : Turn). y .answer) e);
+        output = sym (ap (λ (y : Outcome). y .output) k ∙ ap (λ (y : Turn). y .output) e);
+        bytes = sym (ap (λ (y : Outcome). y .bytes) k);
       }
 
   -- a refusal that the side's list gives comes behind the book's own
@@ -221,7 +216,8 @@ module _ (t : OwnerTable) (w : ℕ) (b : List ℕ) (B : Bytes b) where
             (λ fs h. put-means (layoutIn b .slots) t w (roomIn b) fs (may fs (openedFor-opened Edit b fs h)) (omega (arith, edit-slots b fs h))
             (opened-kept (layoutIn b) b fs (openedFor-opened Edit b fs h) .sound) f [] low u (omega (arith, weighed fs (openedFor-opened Edit b fs h))))
 
-        pub put-away : quotaOf t w < r → (x : Answer) → x ≡ behind (verdict (openedFor Edit b)) NoRoom → Gives Edit (sideOn (layoutIn b .slots) t w (Put f)) [] b x [] b
+        pub put-away : quotaOf t w < r → (x : Answer) → x ≡ behind (verdict (openedFor Edit b)) NoRoom
+            → Gives Edit (sideOn (layoutIn b .slots) t w (Put f)) [] b x [] b
         put-away q =
             away (Put f) [] NoRoom
             (λ fs h. put-full (layoutIn b .slots) t w (roomIn b) fs (may fs (openedFor-opened Edit b fs h)) f [] low u

@@ -20,13 +20,14 @@ use Rattle.owners.specs.Owners.{OwnerTable, isSide, joined, owns, tableRight}
 use Rattle.owners.proofs.Laws.{owns-other, table-right}
 use Rattle.book.specs.declared.Answer.{Answer}
 use Rattle.book.specs.declared.Answer.the-variants.{Done, Refused}
-use Rattle.book.specs.Plain.{Turn, askOn, become, clearOn, frameOf, placed, putOn, refuse, removeOn, replayOn, tell, without}
+use Rattle.book.specs.Plain.{Turn, askOn, become, clearOn, placed, putOn, refuse, removeOn, replayOn, tell, without}
 use Rattle.book.specs.Book.{callFor, made, ours}
 use Rattle.book.specs.History.{BytesRun, Call, Heard, onBytes, onList, turn}
 use Rattle.book.specs.History as whole
 use Rattle.book.proofs.Calls.{make-fits}
 use Rattle.book.proofs.Kept.{Kept, empty-kept, tell-frames}
 use Rattle.book.proofs.History.{after-image, for-image, runs, shown}
+use Rattle.book.proofs.Reading.{ask-frames}
 use Rattle.book.proofs.Versions.{layout-image}
 use Rattle.sides.specs.Parts.{chosen, partOf, withinQuotas}
 use Rattle.sides.specs.Calls.{amid, edited, mayCall, ownTurn, sideOn, wantsOf}
@@ -61,16 +62,6 @@ module _ (t : OwnerTable) where
       (empty-kept (ours .slots) (roomOf ours (length b)))
 
 -- ---- on two lists
-
--- an ask leaves the list
-pub ask-frames : (k : ℕ) (o : List ℕ) (room : ℕ) (fs : List (List ℕ)) → askOn k o room fs .frames ≡ fs
-unfolding askOn
-ask-frames k o room fs = go (ltb (slotFor k) settings) (held (slotFor k) fs)
-  where
-    go : (x y : Bool) → cond {A = Turn} x (cond y (tell (frameOf (slotFor k) fs) o fs) (refuse NotHeld o fs)) (refuse NotAKind o fs) .frames ≡ fs
-    go true true = tell-frames (frameOf (slotFor k) fs) o fs
-    go true false = refl
-    go false y = refl
 
 -- a whole-book call that is accepted does to a side's part what it does to the whole list
 module _ (t : OwnerTable) (joins : joined (t .owners) ≡ true) (room w : ℕ) (fs : List (List ℕ)) where

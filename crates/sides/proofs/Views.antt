@@ -1,5 +1,5 @@
 -- What a side's call does to the parts of the joint list: to its own part what it does to its own list (`side-own`), and to the other's nothing
--- (`side-apart`). And the frames that fit the quotas fit the room (`quotas-fit`).
+-- (`side-apart`). The frames that fit the quotas fit the room (`quotas-fit`), and an ask for a slot without an entry is not barred (`ask-nobody`).
 -- Assumes nothing.
 use mathlib.Core.Path.{ap, refl, sym, _∙_, _≡_}
 use mathlib.Core.Bool.{Bool, cond, false, not, true, _&&_}

@@ -24,7 +24,7 @@ use Rattle.book.specs.Book.{opened}
 use Rattle.book.proofs.Calls.{opened-judge}
 use Rattle.book.proofs.Kept.{opened-kept}
 use Rattle.book.proofs.Placed.{by-place}
-use Rattle.filling.proofs.Lists.{flat-split}
+use Rattle.contents.proofs.Lists.{flat-split}
 use Rattle.book.proofs.Swapping.{swap-room}
 use Rattle.sides.specs.Parts.{chosen, partOf}
 use Rattle.sides.specs.Means.{weightAfter, weightFrom}

@@ -12,7 +12,7 @@ use Rattle.book.specs.declared.Answer.{Answer}
 use Rattle.book.specs.declared.Answer.the-variants.{Done, Refused}
 use Rattle.book.specs.Plain.{Turn, placed, refuse, without}
 use Rattle.book.specs.Book.{Outcome}
-use Rattle.book.specs.History.{Ask, Call, Clear, Heard, Make, Put, Remove, Replay, after, turn}
+use Rattle.book.specs.History.{Ask, Call, Clear, Heard, Make, Put, Remove, Replay, after, isRead, turn}
 use Rattle.sides.specs.Calls.{Request, mayCall, ownTurn, sideCall, sideOn}
 
 -- a side's call: who makes it, what is asked, and the output that is lent
@@ -115,14 +115,6 @@ heardBy w (e ∷ es) [] = []
 heardBy w (e ∷ es) (h ∷ hs) = cond (isBy w e) (h ∷ heardBy w es hs) (heardBy w es hs)
 
 -- the book is written by the sides' calls alone: of the whole book there are only reads
-abbrev pub isRead : Call → Bool
-isRead Make = false
-isRead (Put f) = false
-isRead (Remove k) = false
-isRead (Ask k o) = true
-isRead Clear = false
-isRead (Replay o) = true
-
 unfoldable pub bySides : List Event → Bool
 bySides [] = true
 bySides (Side c ∷ es) = bySides es

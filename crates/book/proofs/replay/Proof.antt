@@ -1,12 +1,12 @@
-use mathlib.Core.Path.{ap, ap₂, sym, _∙_, _≡_}
-use Prim.Native.Nat.{ℕ, _+_, _*_, _-_}
+use mathlib.Core.Path.{ap, ap₂, sym, _∙_}
+use Prim.Native.Nat.{ℕ, _-_}
 use native.Mathlib.Omega.{arith}
 use borrow.Author.Needs.{needs}
 use denote.Ref.{now}
 use Rattle.contents.specs.Contents.{framesFrom, start}
 use Rattle.contents.proofs.Judged.{Bytes}
 use Rattle.book.specs.Book.{Read, layoutIn, verdict}
-use Rattle.book.specs.Edits.{Tiles, reelFrom}
+use Rattle.book.specs.Edits.{reelFrom}
 use Rattle.book.proofs.Calls.{Holds, holds-reads, opened-holds}
 use Rattle.book.proofs.Versions.{Serves, off-tells, openedFor-serves, tells-for}
 use Rattle.book.proofs.Telling.{replay-done, replay-short}

@@ -1,10 +1,9 @@
 use mathlib.Core.Path.{_≡_, ap, refl, sym, _∙_}
 use native.Mathlib.Omega.{arith}
-use Prim.Native.Nat.{ℕ, _+_, _≤_}
+use Prim.Native.Nat.{ℕ, _+_}
 use lib.ListN.{length, drop}
 use denote.Ref.{now}
 use borrow.Author.Needs.{needs}
-use Rattle.contents.proofs.Judged.{Bytes}
 use Rattle.book.specs.Book.{layoutIn, roomIn}
 use Rattle.playback.specs.Parts.{after, passRecords}
 use Rattle.playback.specs.Code.{stateIn}
