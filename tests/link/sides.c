@@ -12,7 +12,7 @@ typedef struct {
 static held lists[3][SETTINGS + 1];
 static size_t counts[3], size, entries;
 static uint64_t quotas[3], tried;
-static uint8_t book[4097], owners[HB_SETTINGS + 1];
+static uint8_t book[4097], owners[SLOTS + 1];
 
 /* ---- the lists */
 
@@ -171,7 +171,7 @@ static void replay(uint64_t caller) {
 /* ---- the installer, side 1, has the LoRa and common settings; the operator, side 2, the FSK settings */
 
 static void fsk_is_the_operators(void) {
-    entries = HB_SETTINGS;
+    memset(owners, 1, entries = SLOTS);
     for (uint64_t kind = 1; kind <= KINDS; kind++)
         if (slot(kind) >= 0) owners[slot(kind)] = kind >= 16 && kind <= 21 ? 2 : 1;
 }
@@ -329,7 +329,7 @@ static void slots(void) {
     for (size_t i = 0; i < KINDS; i++) {
         uint64_t kind = rows[i].kind, other = other_form(kind);
         if (slot(kind) < 0) continue;
-        memset(owners, 1, entries = HB_SETTINGS);
+        memset(owners, 1, entries = SLOTS);
         owners[slot(kind)] = 2;
         if (other) owners[slot(other)] = 2;
         fresh(START + 38, 26, 12);
@@ -353,7 +353,7 @@ static uint64_t some(void) {
 
 /* Owners at random, both forms of a setting with one; quotas that fill the room, or less. */
 static void any_table(size_t room) {
-    entries = HB_SETTINGS;
+    memset(owners, 1, entries = SLOTS);
     for (uint64_t kind = 1; kind <= KINDS; kind++)
         if (slot(kind) >= 0) owners[slot(kind)] = other_form(kind) && other_form(kind) < kind ? owners[slot(other_form(kind))] : 1 + some() % 2;
     quotas[1] = some() % (room + 1);

@@ -1,5 +1,5 @@
--- A call on bytes of a layout, by what is read in them: what opens and what does not (`opened-..`, `ready-..`), and the step on the frames (`accept`);
--- and what a make gives (`make-..`).
+-- What a call gives (`Gives`); a call on bytes of a layout, by what is read in them: what opens and what does not (`opened-..`, `ready-..`), and the step
+-- on the frames (`accept`); and what a make gives (`make-..`).
 -- Assumes nothing.
 use mathlib.Core.Path.{ap, refl, sym, _∙_, _≡_}
 use mathlib.Core.Bool.{Bool, cond, false, not, true}
@@ -14,17 +14,54 @@ use Rattle.contents.specs.declared.Verdict.the-variants as checked
 use Rattle.book.specs.declared.Answer.{Answer}
 use Rattle.book.specs.declared.Answer.the-variants.{Done, Refused}
 use Rattle.contents.specs.Frames.{held}
-use Rattle.contents.specs.Contents.{Contents, Layout, holds, image, judge, longest, presentAt, presentFor, refused, roomOf, start, verdictOf}
+use Rattle.contents.specs.Contents.{Contents, Layout, holds, image, judge, longest, offsetAt, presentFor, refused, roomOf, start, verdictOf}
 use Rattle.contents.proofs.Judged.{Bytes, Reads, apart, judge-image, judge-reads}
 use Rattle.contents.proofs.Offsets.{offset-among, present-tells}
 use Rattle.forms.specs.Forms.{inBoth, single}
 use Rattle.forms.proofs.Forms.{OneForm, both-agree, single-forms}
 use Rattle.book.specs.Plain.{Turn, become, clearOn}
-use Rattle.book.specs.Book.{agreed, call, made, opened, verdict}
+use Rattle.book.specs.Book.{Outcome, Permits, Tells, agreed, call, made, opened, verdict}
 
 -- an answer is not both
 pub done-refused : (n : ℕ) (x : Refusal) → Done n ≡ Refused x → ⊥
 done-refused n x q = apart (cc)
+
+-- ---- an outcome
+
+-- what a call gives, all of it
+pub record Gives (p : Outcome) (a : Answer) (x y : List ℕ) : Type 0 where
+  pub answer : a ≡ p .answer
+  pub output : x ≡ p .output
+  pub bytes : y ≡ p .bytes
+
+module _ (p : Outcome) (a : Answer) (x y : List ℕ) (g : Gives p a x y) where
+  pub permits : Permits p a y
+  permits = (g .answer, g .bytes)
+
+  pub tells : Tells p a x
+  tells = (g .answer, g .output)
+
+-- what is permitted of one call is permitted of an equal one
+module _ (p q : Outcome) (a : Answer) (y : List ℕ) (e : p ≡ q) where
+  pub permits-same : Permits p a y → Permits q a y
+  permits-same h = (h .0 ∙ ap (λ (x : Outcome). x .answer) e, h .1 ∙ ap (λ (x : Outcome). x .bytes) e)
+
+  pub tells-same : Tells p a y → Tells q a y
+  tells-same h = (h .0 ∙ ap (λ (x : Outcome). x .answer) e, h .1 ∙ ap (λ (x : Outcome). x .output) e)
+
+-- ---- what is found
+
+-- the frames that were found
+pub record Finds (c : Contents) : Type 0 where
+  pub frames : List (List ℕ)
+  pub opens : c ≡ holds frames
+
+pub done-finds : (c : Contents) (n : ℕ) → Done n ≡ verdict c → Finds c
+done-finds (refused x) n e = absurd (done-refused n x e)
+done-finds (holds fs) n e = record { frames = fs; opens = refl }
+
+pub done-nought : (c : Contents) (n : ℕ) → Done n ≡ verdict c → Done 0 ≡ verdict c
+done-nought c n e = sym (ap verdict (done-finds c n e .opens))
 
 pub record Holds (l : Layout) (b : List ℕ) : Type 0 where
   pub frames : List (List ℕ)
@@ -50,11 +87,9 @@ opened-forms l b fs h = single-forms fs (agreed-holds (judge l b) fs h .1)
 
 -- a book that opens reads as frames
 pub opened-holds : (l : Layout) (b : List ℕ) (n : ℕ) → Done n ≡ verdict (opened l b) → Holds l b
-opened-holds l b n h = go (opened l b) refl h
-  where
-    go : (r : Contents) → opened l b ≡ r → Done n ≡ verdict r → Holds l b
-    go (refused x) e z = absurd (done-refused n x z)
-    go (holds fs) e z = record { frames = fs; reads = opened-judge l b fs e; opens = e }
+opened-holds l b n h =
+    let f = done-finds (opened l b) n h in
+    record { frames = f .frames; reads = opened-judge l b (f .frames) (f .opens); opens = f .opens }
 
 -- what the check of a buffer says is what a call finds
 pub ready-refused : (l : Layout) (b : List ℕ) (x : Refusal) → checked.Refused x ≡ verdictOf (judge l b) → Refused x ≡ verdict (opened l b)
@@ -66,7 +101,7 @@ ready-refused l b x e = go (judge l b) e
     go (holds fs) z = absurd (apart (cc))
 
 -- the offsets of a header tell which slots are held
-pub present-held : (l : Layout) (b : List ℕ) (fs : List (List ℕ)) → judge l b ≡ holds fs → (s : ℕ) → s < l .slots → presentAt b s ≡ held s fs
+pub present-held : (l : Layout) (b : List ℕ) (fs : List (List ℕ)) → judge l b ≡ holds fs → (s : ℕ) → s < l .slots → not (eqb (offsetAt b s) 0) ≡ held s fs
 present-held l b fs h s a = ap (λ (o : ℕ). not (eqb o 0)) (sym (offset-among (l .slots) b s a)) ∙ present-tells l b fs h s
 
 -- and so whether a setting is held in both its forms
@@ -93,16 +128,10 @@ module _ (l : Layout) (b : List ℕ) (ok : checked.WellFormed ≡ verdictOf (jud
 pub opened-bytes : (l : Layout) (b : List ℕ) (fs : List (List ℕ)) → Bytes b → opened l b ≡ holds fs → b ≡ image l (length b) fs
 opened-bytes l b fs B h = judge-image l b fs B (opened-judge l b fs h)
 
--- what a call gives, all of it
-pub record Gives (l : Layout) (s : List ℕ → ℕ → List (List ℕ) → Turn) (o b : List ℕ) (a : Answer) (x y : List ℕ) : Type 0 where
-  pub answer : a ≡ call l s o b .answer
-  pub output : x ≡ call l s o b .output
-  pub bytes : y ≡ call l s o b .bytes
-
 -- a call on a book that reads as frames is the step on them
 pub accept : (l : Layout) (s : List ℕ → ℕ → List (List ℕ) → Turn) (o b : List ℕ) (h : Holds l b) (t : Turn) (y : List ℕ)
     → s o (roomOf l (length b)) (h .frames) ≡ t → y ≡ image l (length b) (t .frames)
-    → Gives l s o b (t .answer) (t .output) y
+    → Gives (call l s o b) (t .answer) (t .output) y
 unfolding call
 accept l s o b h t y e q =
     record {
@@ -131,21 +160,6 @@ module _ (l : Layout) (b : List ℕ) where
 pub holds-reads : (l : Layout) (b : List ℕ) (h : Holds l b) → Reads l b (h .frames)
 holds-reads l b h = judge-reads l b (h .frames) (h .reads)
 
-pub clear-done : (l : Layout) (b y : List ℕ) → Holds l b → y ≡ image l (length b) [] → Gives l clearOn [] b (Done 0) [] y
+pub clear-done : (l : Layout) (b y : List ℕ) → Holds l b → y ≡ image l (length b) [] → Gives (call l clearOn [] b) (Done 0) [] y
 unfolding clearOn
 clear-done l b y h e = accept l clearOn [] b h (become [] []) y refl e
-
-pub permits : (l : Layout) (s : List ℕ → ℕ → List (List ℕ) → Turn) (o b : List ℕ) (a : Answer) (x y : List ℕ) → Gives l s o b a x y
-    → (a ≡ call l s o b .answer) × (y ≡ call l s o b .bytes)
-permits l s o b a x y g = (g .answer, g .bytes)
-
-pub tells : (l : Layout) (s : List ℕ → ℕ → List (List ℕ) → Turn) (o b : List ℕ) (a : Answer) (x y : List ℕ) → Gives l s o b a x y
-    → (a ≡ call l s o b .answer) × (x ≡ call l s o b .output)
-tells l s o b a x y g = (g .answer, g .output)
-
-pub opened-done : (l : Layout) (b : List ℕ) (n : ℕ) → Done n ≡ verdict (opened l b) → Done 0 ≡ verdict (opened l b)
-opened-done l b n h = go (opened l b) h
-  where
-    go : (r : Contents) → Done n ≡ verdict r → Done 0 ≡ verdict r
-    go (refused x) z = absurd (done-refused n x z)
-    go (holds fs) z = refl

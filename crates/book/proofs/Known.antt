@@ -16,6 +16,7 @@ use Rattle.contents.proofs.Shape.{count-most, place-ge, place-in, place-none, p
 use Rattle.contents.proofs.Judged.{Bytes, Reads, Tiled, framesFrom-tiled, judge-image, offsets}
 use Rattle.contents.proofs.Offsets.{present-tells}
 use Rattle.book.specs.Plain.{Turn}
+use Rattle.book.specs.Book.{call}
 use Rattle.book.specs.declared.Answer.{Answer}
 use Rattle.book.specs.Edits.{Low}
 use Rattle.book.proofs.Calls.{Gives, Holds, accept, holds-reads, present-held}
@@ -67,7 +68,7 @@ module _ (l : Layout) (b : List ℕ) (B : Bytes b) (h : Holds l b) where
 
 -- a step that leaves the list leaves the bytes
 pub stay : (l : Layout) (b : List ℕ) (B : Bytes b) (h : Holds l b) (s : List ℕ → ℕ → List (List ℕ) → Turn) (o : List ℕ) (a : Answer) (x : List ℕ)
-    → s o (roomOf l (length b)) (h .frames) ≡ record { answer = a; output = x; frames = h .frames } → Gives l s o b a x b
+    → s o (roomOf l (length b)) (h .frames) ≡ record { answer = a; output = x; frames = h .frames } → Gives (call l s o b) a x b
 stay l b B h s o a x e = accept l s o b h (record { answer = a; output = x; frames = h .frames }) b e (is-image l b B h)
 
 -- no offset of a book is past what a buffer can have

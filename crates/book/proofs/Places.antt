@@ -158,8 +158,8 @@ pub openedFor-says : (P : Refusal → Type 0) → P BothForms → (b : List ℕ)
     → (u : Use) (x : Refusal) → openedFor u b ≡ refused x → P x
 openedFor-says P both b h u x e = opened-says P both (layoutIn b) b h x (refuses-opened u b x e)
 
-pub found-near : (b : List ℕ) (u : Use) (x : Refusal) → openedFor u b ≡ refused x → placeOf x ≤ 12
-found-near b = openedFor-says Near (omega arith) b (λ y w. omega (arith, judge-place (layoutIn b) b y w))
+pub openedFor-near : (b : List ℕ) (u : Use) (x : Refusal) → openedFor u b ≡ refused x → placeOf x ≤ 12
+openedFor-near b = openedFor-says Near (omega arith) b (λ y w. omega (arith, judge-place (layoutIn b) b y w))
 
 pub after-place : (b : List ℕ) (c : Call) (x : Refusal) → after c b .answer ≡ Refused x → placeOf x ≤ 12
-after-place b c x e = subst (Says Near) e (after-says Near steps-near b (found-near b) (omega arith) c)
+after-place b c x e = subst (Says Near) e (after-says Near steps-near b (openedFor-near b) (omega arith) c)

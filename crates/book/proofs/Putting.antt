@@ -30,6 +30,7 @@ use Rattle.contents.proofs.Lists.{flat-append}
 use Rattle.filling.proofs.Filling.{append-image}
 use Rattle.forms.specs.Forms.{other}
 use Rattle.book.specs.Plain.{become, placed, putOn, refuse, swapIn}
+use Rattle.book.specs.Book.{call}
 use Rattle.book.specs.Edits.{swapped}
 use Rattle.book.proofs.Known.{count-few, count-is, end-is, held-within, is-held, is-image, not-held, stay, tiling}
 use Rattle.book.proofs.Calls.{Gives, Holds, accept, holds-reads}
@@ -113,7 +114,7 @@ module _ (f o : List ℕ) (n : ℕ) (fs : List (List ℕ)) where
     putOn-full r = rw (lt-ltb _ _ a, e, lt-leb _ _ r)
 
 module _ (l : Layout) (b : List ℕ) (B : Bytes b) (h : Holds l b) (f : List ℕ) (k : ℕ) (own : k ≡ slotOf f) where
-  pub put-bad : settings ≤ k → (x : Refusal) → lacks (decode f) ≡ x → Gives l (putOn f) [] b (Refused x) [] b
+  pub put-bad : settings ≤ k → (x : Refusal) → lacks (decode f) ≡ x → Gives (call l (putOn f) [] b) (Refused x) [] b
   put-bad a x e =
       stay l b B h (putOn f) [] (Refused x) []
       (putOn-bad f [] (roomOf l (length b)) (h .frames) (omega arith) ∙ ap (λ (y : Refusal). refuse y [] (h .frames)) e)
@@ -125,7 +126,7 @@ module _ (l : Layout) (b : List ℕ) (B : Bytes b) (h : Holds l b) (f : List ℕ
     pub put-room : (at ≡ 0 → ⊥) → at + length f ≤ length b
     put-room n = omega (arith, frame-len, held-within l b B h k at am o n, holds-reads l b h .high)
 
-    pub put-over : (y : List ℕ) → (at ≡ 0 → ⊥) → y ≡ written b at f → Gives l (putOn f) [] b (Done 0) [] y
+    pub put-over : (y : List ℕ) → (at ≡ 0 → ⊥) → y ≡ written b at f → Gives (call l (putOn f) [] b) (Done 0) [] y
     put-over y n e =
         accept l (putOn f) [] b h (become [] (swapIn (slotOf f) f (h .frames))) y
         (putOn-fits f [] (roomOf l (length b)) (h .frames) (omega arith) _ (placed-over f (h .frames) hf)
@@ -173,12 +174,12 @@ module _ (l : Layout) (b : List ℕ) (B : Bytes b) (h : Holds l b) (f : List ℕ
     more : length (flat (h .frames ++ (f ∷ []))) ≡ length (flat (h .frames)) + length f
     more = ap length (flat-append (h .frames) f) ∙ length-append (flat (h .frames)) f
 
-    pub put-full : length b - e < length f → Gives l (putOn f) [] b (Refused NoRoom) [] b
+    pub put-full : length b - e < length f → Gives (call l (putOn f) [] b) (Refused NoRoom) [] b
     put-full r = stay l b B h (putOn f) [] (Refused NoRoom) []
         (putOn-full f [] (roomOf l (length b)) (h .frames) (omega (arith, N .own, N .small)) _ behind
         (omega (arith, more, N .ends, end-is l b B h, holds-reads l b h .high)))
 
-    pub put-app : (y : List ℕ) → l .slots < 255 → length f ≤ length b - e → y ≡ appendedTo (l .slots) k f b → Gives l (putOn f) [] b (Done 0) [] y
+    pub put-app : (y : List ℕ) → l .slots < 255 → length f ≤ length b - e → y ≡ appendedTo (l .slots) k f b → Gives (call l (putOn f) [] b) (Done 0) [] y
     put-app y few r p =
         accept l (putOn f) [] b h (become [] (h .frames ++ (f ∷ []))) y
         (putOn-fits f [] (roomOf l (length b)) (h .frames) (omega (arith, N .own, N .small)) _ behind (omega (arith, more, room)))
@@ -210,13 +211,13 @@ module _ (l : Layout) (b : List ℕ) (B : Bytes b) (h : Holds l b) (f : List ℕ
     same : swapIn t f (h .frames) ≡ swapIn (other (slotOf f)) f (h .frames)
     same = ap (λ (i : ℕ). swapIn i f (h .frames)) twin-is
 
-    pub put-tight : length b - (e - sizeOf t) < length f → Gives l (putOn f) [] b (Refused NoRoom) [] b
+    pub put-tight : length b - (e - sizeOf t) < length f → Gives (call l (putOn f) [] b) (Refused NoRoom) [] b
     put-tight r =
         stay l b B h (putOn f) [] (Refused NoRoom) []
         (putOn-full f [] (roomOf l (length b)) (h .frames) (omega (arith, N .own, N .small)) _ (instead ∙ sym same)
         (omega (arith, r, N .ends, after, twin-in, end-is l b B h, holds-reads l b h .high)))
 
-    pub put-swap : (y : List ℕ) → length f ≤ length b - (e - sizeOf t) → y ≡ swapped (l .slots) b at (sizeOf t) f k e → Gives l (putOn f) [] b (Done 0) [] y
+    pub put-swap : (y : List ℕ) → length f ≤ length b - (e - sizeOf t) → y ≡ swapped (l .slots) b at (sizeOf t) f k e → Gives (call l (putOn f) [] b) (Done 0) [] y
     put-swap y r p =
         accept l (putOn f) [] b h (become [] (swapIn t f (h .frames))) y
         (putOn-fits f [] (roomOf l (length b)) (h .frames) (omega (arith, N .own, N .small)) _ (instead ∙ sym same)

@@ -21,6 +21,10 @@ use Rattle.book.proofs.Calls.{opened-bytes}
 use Rattle.book.proofs.Kept.{tell-frames}
 use Rattle.book.proofs.Versions.{openedFor-opened}
 
+-- an ask and a replay only read, whatever they ask for
+pub read-calls : ((k : ℕ) (o : List ℕ) → isRead (Ask k o) ≡ true) × ((o : List ℕ) → isRead (Replay o) ≡ true)
+read-calls = ((λ k o. refl), (λ o. refl))
+
 -- an ask leaves the list
 pub ask-frames : (k : ℕ) (o : List ℕ) (room : ℕ) (fs : List (List ℕ)) → askOn k o room fs .frames ≡ fs
 unfolding askOn

@@ -20,6 +20,7 @@ use Rattle.contents.proofs.Headers.{head, header-head}
 use Rattle.contents.proofs.Shape.{Sound, place-ge, place-in}
 use Rattle.contents.proofs.Judged.{Bytes, offsets}
 use Rattle.book.specs.Plain.{become, refuse, removeOn, swapIn, without}
+use Rattle.book.specs.Book.{call}
 use Rattle.book.specs.declared.Answer.the-variants.{Done, Refused}
 use Rattle.book.specs.Edits.{shiftedAt, takenOut}
 use Rattle.book.proofs.Calls.{Gives, Holds, accept, holds-reads}
@@ -143,11 +144,11 @@ module _ (k s : ℕ) (own : s ≡ slotFor k) (o : List ℕ) (n : ℕ) (fs : List
   removeOn-done a h = rw (← own, lt-ltb _ _ a, h)
 
 module _ (l : Layout) (b : List ℕ) (B : Bytes b) (h : Holds l b) (k s : ℕ) (own : s ≡ slotFor k) where
-  pub remove-none : settings ≤ s → Gives l (removeOn k) [] b (Refused NotAKind) [] b
+  pub remove-none : settings ≤ s → Gives (call l (removeOn k) [] b) (Refused NotAKind) [] b
   remove-none a = stay l b B h (removeOn k) [] (Refused NotAKind) [] (removeOn-none k s own [] (roomOf l (length b)) (h .frames) a)
 
   module _ (a : s < settings) (am : s < l .slots) (at : ℕ) (o : at ≡ offsetAt b s) where
-    pub remove-absent : at ≡ 0 → Gives l (removeOn k) [] b (Refused NotHeld) [] b
+    pub remove-absent : at ≡ 0 → Gives (call l (removeOn k) [] b) (Refused NotHeld) [] b
     remove-absent z = stay l b B h (removeOn k) [] (Refused NotHeld) []
         (removeOn-absent k s own [] (roomOf l (length b)) (h .frames) a (not-held l b B h s at am o z))
 
@@ -155,7 +156,7 @@ module _ (l : Layout) (b : List ℕ) (B : Bytes b) (h : Holds l b) (k s : ℕ) (
       pub some-held : 0 < getD b 1 0
       some-held = omega (arith, count-is l b B h, length-without s (h .frames) (is-held l b B h s at am o n))
 
-      pub remove-done : (e : ℕ) (y : List ℕ) → e ≡ wordAt b 2 → y ≡ takenOut (l .slots) b at (sizeOf s) e → Gives l (removeOn k) [] b (Done 0) [] y
+      pub remove-done : (e : ℕ) (y : List ℕ) → e ≡ wordAt b 2 → y ≡ takenOut (l .slots) b at (sizeOf s) e → Gives (call l (removeOn k) [] b) (Done 0) [] y
       remove-done e y q p =
           accept l (removeOn k) [] b h (become [] (without s (h .frames))) y
           (removeOn-done k s own [] (roomOf l (length b)) (h .frames) a hk)

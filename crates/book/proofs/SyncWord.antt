@@ -22,7 +22,7 @@ use Rattle.book.specs.Book.{Use, layoutIn, openedFor}
 use Rattle.book.specs.History.{Call, after}
 use Rattle.book.proofs.Both.{isMake, ten-first}
 use Rattle.book.proofs.Calls.{opened-judge}
-use Rattle.book.proofs.Versions.{openedFor-opened, slots-least}
+use Rattle.book.proofs.Versions.{openedFor-opened, sync-slot}
 use Rattle.book.proofs.Keeps.{lentTo}
 use Rattle.book.proofs.Laws.{DecodesTo, slot-decodes}
 
@@ -58,18 +58,14 @@ module _ (b : List ℕ) (B : Bytes b) (present : syncWordAt b ≡ 0 → ⊥) whe
           ⊎-elim (λ h. omega (arith, getD-past f i (omega (arith, short))))
           (λ h. omega (arith, byte-at i h, B (syncWordAt b + i))) (le-or-lt 11 i)
 
-  small : slotFor 20 < layoutIn b .slots
-  unfolding slotFor
-  small = omega (arith, slots-least b)
-
   pub opened-sync-word : (u : Use) (fs : List (List ℕ)) → openedFor u b ≡ holds fs → nbBitsAt b ≤ 64
   unfolding f
   opened-sync-word u fs e =
-      decoded-sync-word (stored-decodes (layoutIn b) b fs (opened-judge (layoutIn b) b fs (openedFor-opened u b fs e)) (slotFor 20) small present)
+      decoded-sync-word (stored-decodes (layoutIn b) b fs (opened-judge (layoutIn b) b fs (openedFor-opened u b fs e)) (slotFor 20) (sync-slot b) present)
 
   pub long-sync-word : start (layoutIn b .slots) ≤ length b → length b ≤ longest → 64 < nbBitsAt b
       → (c : Call) → isMake c ≡ false → after c b ≡ record { answer = Refused NotWellFormed; output = lentTo c; bytes = b }
   unfolding f
   long-sync-word low high long c n =
       ten-first b c n NotWellFormed
-      (undecoded-ten (layoutIn b) b low high (slotFor 20) small present (λ e. let h = decoded-sync-word e in omega arith))
+      (undecoded-ten (layoutIn b) b low high (slotFor 20) (sync-slot b) present (λ e. let h = decoded-sync-word e in omega arith))

@@ -27,6 +27,7 @@ use Rattle.contents.proofs.Offsets.{offset-among, offset-slot}
 use Rattle.contents.proofs.Headers.{header-length}
 use Rattle.contents.proofs.Loops.{minus-end, minus-step, slot-fits}
 use Rattle.book.specs.Plain.{askOn, frameOf, refuse, replayOn, tell}
+use Rattle.book.specs.Book.{call}
 use Rattle.book.proofs.Known.{count-is, end-is, held-within, is-held, is-image, none-held, stay, tiling}
 use Rattle.book.specs.Edits.{Tiles, reelFrom}
 use Rattle.book.proofs.Calls.{Gives, Holds, holds-reads}
@@ -132,43 +133,43 @@ module _ (k s : ℕ) (own : s ≡ slotFor k) (o : List ℕ) (n : ℕ) (fs : List
   askOn-held a h = rw (← own, lt-ltb _ _ a, h)
 
 module _ (l : Layout) (b : List ℕ) (B : Bytes b) (h : Holds l b) (o : List ℕ) (k s : ℕ) (own : s ≡ slotFor k) where
-  pub ask-none : settings ≤ s → Gives l (askOn k) o b (Refused NotAKind) o b
+  pub ask-none : settings ≤ s → Gives (call l (askOn k) o b) (Refused NotAKind) o b
   ask-none a = stay l b B h (askOn k) o (Refused NotAKind) o (askOn-none k s own o (roomOf l (length b)) (h .frames) a)
 
-  module _ (a : s < settings) (at : ℕ) (qf : at ≡ offsetFor (l .slots) b s) where
-    pub ask-absent : at ≡ 0 → Gives l (askOn k) o b (Refused NotHeld) o b
-    ask-absent z = stay l b B h (askOn k) o (Refused NotHeld) o (askOn-absent k s own o (roomOf l (length b)) (h .frames) a (none-held l b B h s at qf z))
+  module _ (a : s < settings) (at : ℕ) (told : at ≡ offsetFor (l .slots) b s) where
+    pub ask-absent : at ≡ 0 → Gives (call l (askOn k) o b) (Refused NotHeld) o b
+    ask-absent z = stay l b B h (askOn k) o (Refused NotHeld) o (askOn-absent k s own o (roomOf l (length b)) (h .frames) a (none-held l b B h s at told z))
 
     module _ (n : at ≡ 0 → ⊥) where
       -- a slot that has an offset is among the layout's
-      pub am : s < l .slots
-      am = offset-slot (l .slots) b s (λ z. n (qf ∙ z))
+      among : s < l .slots
+      among = offset-slot (l .slots) b s (λ z. n (told ∙ z))
 
-      pub q : at ≡ offsetAt b s
-      q = qf ∙ offset-among (l .slots) b s am
+      stands : at ≡ offsetAt b s
+      stands = told ∙ offset-among (l .slots) b s among
 
       pub ask-inside : at + sizeOf s ≤ length b
-      ask-inside = omega (arith, held-within l b B h s at am q n, holds-reads l b h .high)
+      ask-inside = omega (arith, held-within l b B h s at among stands n, holds-reads l b h .high)
 
       frame-at : take (sizeOf s) (drop at b) ≡ frameOf s (h .frames)
       frame-at =
-          ap₂ (λ (i : ℕ) (y : List ℕ). take (sizeOf s) (drop i y)) (q ∙ offsets l b (h .frames) (holds-reads l b h) s am) (is-image l b B h)
-          ∙ frame-image l (length b) s (h .frames) (tiling l b B h .sound) (is-held l b B h s at am q n)
+          ap₂ (λ (i : ℕ) (y : List ℕ). take (sizeOf s) (drop i y)) (stands ∙ offsets l b (h .frames) (holds-reads l b h) s among) (is-image l b B h)
+          ∙ frame-image l (length b) s (h .frames) (tiling l b B h .sound) (is-held l b B h s at among stands n)
 
       frame-length : at + (sizeOf s) ≤ length b → length (frameOf s (h .frames)) ≡ sizeOf s
       frame-length r = ap length (sym frame-at) ∙ length-take-le (sizeOf s) (drop at b) (omega (arith, length-drop at b))
 
-      pub ask-short : at + (sizeOf s) ≤ length b → length o < sizeOf s → Gives l (askOn k) o b (Refused OutputShort) o b
+      pub ask-short : at + (sizeOf s) ≤ length b → length o < sizeOf s → Gives (call l (askOn k) o b) (Refused OutputShort) o b
       ask-short r w =
           stay l b B h (askOn k) o (Refused OutputShort) o
-          (askOn-held k s own o (roomOf l (length b)) (h .frames) a (is-held l b B h s at am q n)
+          (askOn-held k s own o (roomOf l (length b)) (h .frames) a (is-held l b B h s at among stands n)
           ∙ tell-short (frameOf s (h .frames)) o (h .frames) (omega (arith, frame-length r)))
 
       pub ask-done : (x r : List ℕ) → at + (sizeOf s) ≤ length b → sizeOf s ≤ length o → r ≡ take (at + (sizeOf s) - at) (drop at b) → x ≡ written o 0 r
-          → Gives l (askOn k) o b (Done (sizeOf s)) x b
+          → Gives (call l (askOn k) o b) (Done (sizeOf s)) x b
       ask-done x r i w e p =
           stay l b B h (askOn k) o (Done (sizeOf s)) x
-          (askOn-held k s own o (roomOf l (length b)) (h .frames) a (is-held l b B h s at am q n)
+          (askOn-held k s own o (roomOf l (length b)) (h .frames) a (is-held l b B h s at among stands n)
           ∙ tell-fits (frameOf s (h .frames)) o (h .frames) (sizeOf s) (frame-length i) w
           ∙ ap (λ (y : List ℕ). record { answer = Done (sizeOf s); output = y; frames = h .frames })
           (sym (p ∙ written-fits o 0 r (omega (arith, size)) ∙ paste-lay o 0 r (length r) refl
@@ -246,12 +247,12 @@ module _ (l : Layout) (b : List ℕ) (B : Bytes b) (h : Holds l b) (o : List ℕ
   size : length (reelOf (h .frames)) ≡ e - start (l .slots) + c
   size = omega (arith, reel-length (h .frames), end-is l b B h, count-is l b B h)
 
-  pub replay-short : length o < e - start (l .slots) + c → Gives l replayOn o b (Refused OutputShort) o b
+  pub replay-short : length o < e - start (l .slots) + c → Gives (call l replayOn o b) (Refused OutputShort) o b
   unfolding replayOn
   replay-short w = stay l b B h replayOn o (Refused OutputShort) o (tell-short (reelOf (h .frames)) o (h .frames) (omega (arith, size)))
 
   pub replay-done : (x : List ℕ) → e - start (l .slots) + c ≤ length o → x ≡ reelFrom (l .slots) c b (start (l .slots)) e 0 o
-      → Gives l replayOn o b (Done (e - start (l .slots) + c)) x b
+      → Gives (call l replayOn o b) (Done (e - start (l .slots) + c)) x b
   unfolding replayOn
   replay-done x w p =
       stay l b B h replayOn o (Done (e - start (l .slots) + c)) x

@@ -1,20 +1,20 @@
 -- A buffer as it is lent: what a use finds there is what its own layout says (`Serves`, `openedFor-..`), and what is edited is of our layout
 -- (`edit-..`). Where a book serves a use a call is that on its layout (`for-layout`), and else it is turned away (`turned-off`). What is proved of
--- calls elsewhere, a function's contract apart, knows of `layoutIn` and `openedFor` no more than stands here.
+-- calls elsewhere, the functions that read the version and the computed examples apart, knows of `layoutIn` and `openedFor` no more than stands here.
 -- Assumes nothing.
 use mathlib.Core.Path.{ap, refl, sym, _∙_, _≡_}
 use mathlib.Core.List.{List}
-use Prim.Native.Nat.{ℕ, _≤_}
-use native.Mathlib.Nat.{le-refl}
+use Prim.Native.Nat.{ℕ, _<_, _≤_}
 use native.Mathlib.Omega.{arith}
 use Rattle.refusal.specs.declared.Refusal.{Refusal}
 use Rattle.table.specs.Table.{settings}
+use Rattle.settings.specs.Settings.{slotFor}
 use Rattle.contents.specs.Contents.{Contents, Layout, holds, image, refused}
 use Rattle.book.specs.declared.Answer.{Answer}
 use Rattle.book.specs.declared.Answer.the-variants.{Done, Refused}
 use Rattle.book.specs.Plain.{Turn}
 use Rattle.book.specs.Book.{Edit, Permits, Tells, Use, call, callFor, layoutIn, onContents, opened, openedFor, ours, verdict}
-use Rattle.book.proofs.Calls.{Gives, done-refused}
+use Rattle.book.proofs.Calls.{Gives, done-refused, permits, permits-same, tells, tells-same}
 
 -- ---- the layout
 
@@ -23,10 +23,10 @@ pub layout-image : (n : ℕ) (fs : List (List ℕ)) → layoutIn (image ours n f
 unfolding layoutIn
 layout-image n fs = refl
 
--- no layout has fewer slots
-pub slots-least : (b : List ℕ) → ours .slots ≤ layoutIn b .slots
-unfolding layoutIn
-slots-least b = le-refl (ours .slots)
+-- every layout has a slot for the sync word
+pub sync-slot : (b : List ℕ) → slotFor 20 < layoutIn b .slots
+unfolding layoutIn slotFor
+sync-slot b = omega arith
 
 -- the book is of a layout that serves a use: what the use finds is what the layout says
 pub record Serves (u : Use) (l : Layout) (b : List ℕ) : Type 0 where
@@ -47,13 +47,6 @@ module _ (b : List ℕ) (n : ℕ) where
   pub edit-serves : Done n ≡ verdict (openedFor Edit b) → Serves Edit ours b
   unfolding openedFor layoutIn
   edit-serves e = record { layout = refl; opens = refl }
-
-pub openedFor-done : (u : Use) (b : List ℕ) (n : ℕ) → Done n ≡ verdict (openedFor u b) → Done 0 ≡ verdict (openedFor u b)
-openedFor-done u b n h = go (openedFor u b) h
-  where
-    go : (r : Contents) → Done n ≡ verdict r → Done 0 ≡ verdict r
-    go (refused x) z = absurd (done-refused n x z)
-    go (holds fs) z = refl
 
 -- the frames that a use finds are those of the bytes' own layout
 pub openedFor-opened : (u : Use) (b : List ℕ) (fs : List (List ℕ)) → openedFor u b ≡ holds fs → opened (layoutIn b) b ≡ holds fs
@@ -84,31 +77,19 @@ module _ (s : List ℕ → ℕ → List (List ℕ) → Turn) (o b : List ℕ) wh
   unfolding callFor call
   for-layout u l w = rw (w .layout, w .opens)
 
+  -- so what is given on the layout the call permits, and tells
+  module _ (u : Use) (l : Layout) (w : Serves u l b) (a : Answer) (x y : List ℕ) (g : Gives (call l s o b) a x y) where
+    pub permits-for : Permits (callFor u s o b) a y
+    permits-for = permits-same (call l s o b) (callFor u s o b) a y (sym (for-layout u l w)) (permits (call l s o b) a x y g)
+
+    pub tells-for : Tells (callFor u s o b) a x
+    tells-for = tells-same (call l s o b) (callFor u s o b) a x (sym (for-layout u l w)) (tells (call l s o b) a x y g)
+
   -- what a use refuses leaves output and bytes
-  pub turned-off : (u : Use) (a : Answer) (r : Refusal) → a ≡ verdict (openedFor u b) → a ≡ Refused r
-      → (a ≡ callFor u s o b .answer) × (o ≡ callFor u s o b .output) × (b ≡ callFor u s o b .bytes)
+  pub turned-off : (u : Use) (a : Answer) (r : Refusal) → a ≡ verdict (openedFor u b) → a ≡ Refused r → Gives (callFor u s o b) a o b
   unfolding callFor
   turned-off u a r e z = go (openedFor u b) refl
     where
-      go : (q : Contents) → openedFor u b ≡ q
-          → (a ≡ onContents (layoutIn b) s o b (openedFor u b) .answer) × (o ≡ onContents (layoutIn b) s o b (openedFor u b) .output)
-          × (b ≡ onContents (layoutIn b) s o b (openedFor u b) .bytes)
-      go (refused n) w = let k : a ≡ Refused n = e ∙ ap verdict w in (rw w k, rw w, rw w)
+      go : (q : Contents) → openedFor u b ≡ q → Gives (onContents (layoutIn b) s o b (openedFor u b)) a o b
+      go (refused n) w = let k : a ≡ Refused n = e ∙ ap verdict w in record { answer = rw w k; output = rw w; bytes = rw w }
       go (holds fs) w = absurd (done-refused 0 r (sym (e ∙ ap verdict w) ∙ z))
-
-  pub off-permits : (u : Use) (a : Answer) (r : Refusal) → a ≡ verdict (openedFor u b) → a ≡ Refused r → Permits (callFor u s o b) a b
-  off-permits u a r e z = let t = turned-off u a r e z in (t .0, t .2)
-
-  pub off-tells : (u : Use) (a : Answer) (r : Refusal) → a ≡ verdict (openedFor u b) → a ≡ Refused r → Tells (callFor u s o b) a o
-  off-tells u a r e z = let t = turned-off u a r e z in (t .0, t .1)
-
-  -- what is permitted on the layout is permitted of the call
-  pub permits-same : (u : Use) (l : Layout) → Serves u l b → (a : Answer) (y : List ℕ) → Permits (call l s o b) a y → Permits (callFor u s o b) a y
-  permits-same u l w a y p = (rw (for-layout u l w) (p .0), rw (for-layout u l w) (p .1))
-
-  module _ (u : Use) (l : Layout) (w : Serves u l b) (a : Answer) (x y : List ℕ) (g : Gives l s o b a x y) where
-    pub permits-for : Permits (callFor u s o b) a y
-    permits-for = (rw (for-layout u l w) (g .answer), rw (for-layout u l w) (g .bytes))
-
-    pub tells-for : Tells (callFor u s o b) a x
-    tells-for = (rw (for-layout u l w) (g .answer), rw (for-layout u l w) (g .output))

@@ -51,6 +51,7 @@ pub data Use : Type 0 where
   Read : Use
   Edit : Use
 
+-- whether a use only reads
 abbrev pub toRead : Use → Bool
 toRead Read = true
 toRead Edit = false

@@ -210,7 +210,7 @@ appended-none m s f b a = appended-left m s f b (sym (room-none m s (length f) b
 
 -- behind the frames of a list that has none of its slot: the book of the list with the frame at its end
 pub append-image : (l : Layout) (n : ℕ) (f : List ℕ) (fs : List (List ℕ)) → n ≤ longest → slotOf f < settings → held (slotOf f) fs ≡ false
-    → slotOf f < l .slots → length fs < mostCounted → start (l .slots) + length (flat fs) + length f ≤ n
+    → slotOf f < l .slots → length fs + 1 < 256 → start (l .slots) + length (flat fs) + length f ≤ n
     → appendedTo (l .slots) (slotOf f) f (image l n fs) ≡ image l n (fs ++ (f ∷ []))
 unfolding appended
 append-image l n f fs big own new among few room =
@@ -231,7 +231,7 @@ append-image l n f fs big own new among few room =
 
 module _ (l : Layout) where
   -- each behind the one before, while none comes twice
-  all-image : (n : ℕ) → n ≤ longest → (xs ys : List (List ℕ)) → Sound (xs ++ ys) → Within (l .slots) (xs ++ ys) → length (xs ++ ys) ≤ mostCounted
+  all-image : (n : ℕ) → n ≤ longest → (xs ys : List (List ℕ)) → Sound (xs ++ ys) → Within (l .slots) (xs ++ ys) → length (xs ++ ys) < 256
       → start (l .slots) + length (flat (xs ++ ys)) ≤ n → appendedAll (l .slots) ys (image l n xs) ≡ image l n (xs ++ ys)
   unfolding appendedAll flat
   all-image n big xs [] s w few room = ap (image l n) (sym (append-nil xs))
@@ -241,13 +241,13 @@ module _ (l : Layout) where
       ap (appendedAll (l .slots) ys) (append-image l n f xs big (sound-middle xs f ys s .0) (sound-middle xs f ys s .1) (within-middle (l .slots) xs f ys w)
       (omega (arith, length-append xs (f ∷ ys))) (omega (arith, size, length-append f (flat ys))))
       ∙ all-image n big (xs ++ (f ∷ [])) ys (subst Sound (sym same) s) (subst (Within (l .slots)) (sym same) w)
-      (subst (λ (gs : List (List ℕ)). length gs ≤ mostCounted) (sym same) few)
+      (subst (λ (gs : List (List ℕ)). length gs < 256) (sym same) few)
       (subst (λ (gs : List (List ℕ)). start (l .slots) + length (flat gs) ≤ n) (sym same) room)
       ∙ ap (image l n) same
 
   module _ (b : List ℕ) where
     -- A BLANK BOOK FILLED WITH A LIST IS THE LIST'S IMAGE, whatever the bytes were: each frame a setting's with a slot there, none twice, and room for all
-    pub fill-image : start (l .slots) ≤ length b → length b ≤ longest → (fs : List (List ℕ)) → Sound fs → Within (l .slots) fs → length fs ≤ mostCounted
+    pub fill-image : start (l .slots) ≤ length b → length b ≤ longest → (fs : List (List ℕ)) → Sound fs → Within (l .slots) fs → length fs < 256
         → length (flat fs) ≤ roomOf l (length b) → filledBy l fs b ≡ image l (length b) fs
     unfolding filledBy
     fill-image small big fs s w few room =
@@ -255,7 +255,7 @@ module _ (l : Layout) where
         ∙ all-image (length b) big [] fs s w few (omega arith)
 
     -- the same of the reel that the list makes
-    pub fill-reel : start (l .slots) ≤ length b → length b ≤ longest → (fs : List (List ℕ)) → Sound fs → Within (l .slots) fs → length fs ≤ mostCounted
+    pub fill-reel : start (l .slots) ≤ length b → length b ≤ longest → (fs : List (List ℕ)) → Sound fs → Within (l .slots) fs → length fs < 256
         → length (flat fs) ≤ roomOf l (length b) → filledBy l (unreel (reelOf fs) .frames) b ≡ image l (length b) fs
     fill-reel small big fs s w few room =
         ap (λ (u : Unreeled). filledBy l (u .frames) b) (reel-whole fs) ∙ fill-image small big fs s w few room

@@ -12,7 +12,7 @@ use Rattle.table.specs.Table.{settings}
 use Rattle.settings.specs.Settings.{slotOf}
 use Rattle.contents.specs.Contents.{Layout, image, longest, start, wordAt}
 
--- a buffer of n bytes can have a header of m slots
+-- n bytes are a size for a book of m slots: its header fits, and no book is longer
 unfoldable pub sizedFor : ℕ → ℕ → Bool
 sizedFor m n = leb (start m) n && leb n longest
 
@@ -28,7 +28,8 @@ appended b f s e = setWord (setWord (set (paste b e f (length f)) 1 (getD b 1 0 
 abbrev pub mostCounted : ℕ
 mostCounted = 255
 
--- n bytes of the slot s have room behind the frames: it is a setting's, the header has it and says where they end, and its count can be one more
+-- n bytes of the slot s have room behind the frames: it is a setting's and the header has it, the buffer has the size of a book, from the frames' end,
+-- which is not within the header, n bytes are left, and the count can be one more
 unfoldable pub hasRoom : ℕ → ℕ → ℕ → List ℕ → Bool
 hasRoom m s n b =
     ltb s settings

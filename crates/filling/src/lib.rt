@@ -18,7 +18,7 @@ fn byte_to_usize(x: u8) -> usize
     x as usize
 }
 
-// Whether a buffer of that length can have a header of so many slots.
+// Whether a book of so many slots can have that length.
 fn is_sized(len: usize, slots: usize) -> bool
     ensures { λ r. ⌜ r ≡ sizedFor slots len ⌝ }
 {

@@ -6,7 +6,6 @@ use Prim.Native.Nat.{ℕ, _<_}
 use native.Mathlib.Omega.{arith}
 use mathlib.Core.Logic.{_⊎_, inl, inr}
 use lib.ListN.{length}
-use Rattle.refusal.specs.declared.Refusal.{Refusal}
 use Rattle.refusal.specs.declared.Refusal.the-variants.{BufferSize, TraceFault}
 use Rattle.refusal.specs.Numbers.{numberOf}
 use Rattle.dump_text.specs.declared.Dumped.{Dumped}

@@ -27,7 +27,7 @@ use Rattle.locker_profile.specs.declared.Setting.{Setting}
 use Rattle.locker_profile.specs.declared.Answer.the-variants.{Refused}
 use Rattle.locker_profile.specs.Profile.{answered, argumentsOf, frameFor, loraFrom, loraOf, profileOf, profiled}
 use Rattle.locker_profile.specs.Steps.{askedOf, given, missingFor, withheld}
-use Rattle.locker_profile.proofs.Bounds.{opened-own, own-not}
+use Rattle.locker_profile.proofs.Bounds.{openedFor-own, own-not}
 
 -- ---- the decoder's nine numbers
 
@@ -115,7 +115,7 @@ module _ (k : ℕ) (a : slotFor k < settings) (o : List ℕ) (n : length o ≡ 1
         by : (c : Contents) → openedFor Read b ≡ c → book.Refused x ≡ onContents (layoutIn b) (askOn k) o b c .answer → withheld (missingFor x) ≡ askedOf k c
         by (refused y) w e =
             let same : x ≡ y = cc in
-            ap (λ (z : Refusal). withheld (missingFor z)) same ∙ rw (ne-eqb (numberOf y) 9 (own-not y (opened-own b y w) .0))
+            ap (λ (z : Refusal). withheld (missingFor z)) same ∙ rw (ne-eqb (numberOf y) 9 (own-not y (openedFor-own b y w) .0))
         by (holds fs) w e = told fs (held (slotFor k) fs) (rw (ask-list (roomIn b) fs) at e)
 
 -- ---- the three settings

@@ -56,8 +56,8 @@ broken-bounds c n e = subst (Says Rule Any (λ i l m. (l, m)) tt) e (profiled-sa
 abbrev pub Own : Refusal → Type 0
 Own x = ((10 ≤ numberOf x) × (numberOf x ≤ 11)) ⊎ (numberOf x ≡ 16)
 
-pub opened-own : (b : List ℕ) (x : Refusal) → openedFor Read b ≡ refused x → Own x
-opened-own b =
+pub openedFor-own : (b : List ℕ) (x : Refusal) → openedFor Read b ≡ refused x → Own x
+openedFor-own b =
     openedFor-says Own (inr refl) b (λ y w. inl (judge-own (layoutIn b) b y w)) Read
 
 -- so neither 9 nor 22 is a book's own
@@ -69,7 +69,7 @@ own-not x (inr h) = ((λ e. absurd (omega arith)), λ e. absurd (omega arith))
 pub refused-only : (b : List ℕ) (x : Refusal) → answerFor b ≡ Refused x → Own x ⊎ (x ≡ SettingMissing)
 refused-only b x e =
     subst (Says Any (λ y. Own y ⊎ (y ≡ SettingMissing)) (λ i l m. tt) (inr refl)) e
-    (profiled-says Any (λ y. Own y ⊎ (y ≡ SettingMissing)) (λ i l m. tt) (inr refl) (openedFor Read b) (λ y w. inl (opened-own b y w)))
+    (profiled-says Any (λ y. Own y ⊎ (y ≡ SettingMissing)) (λ i l m. tt) (inr refl) (openedFor Read b) (λ y w. inl (openedFor-own b y w)))
 
 pub profiled-place : (b : List ℕ) (x : Refusal) → answerFor b ≡ Refused x → placeOf x ≡ 0
 profiled-place b x e =

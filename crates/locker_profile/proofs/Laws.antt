@@ -38,7 +38,7 @@ use Rattle.locker_profile.specs.Profile.{answerFor, answered, frameFor, 
 use Rattle.locker_profile.proofs.Rules.{AllKept, Failing, fails-place, kept-none, none-kept, place-fails}
 use Rattle.locker_profile.specs.declared.Setting.{Setting}
 use Rattle.locker_profile.specs.Steps.{askedOf, given, missingFor, withheld}
-use Rattle.locker_profile.proofs.Bounds.{opened-own, own-not}
+use Rattle.locker_profile.proofs.Bounds.{openedFor-own, own-not}
 use Rattle.locker_profile.proofs.Asking.{all-judged, ask-held, ask-missing, has, refused-first, refused-fourth, refused-second, slots-low}
 
 -- ---- answers apart
@@ -165,7 +165,7 @@ module _ (b : List ℕ) where
       by (inl c) =
           let q : Refused (c .why) ≡ Refused SettingMissing = sym (closed-answer c) ∙ e in
           let n : 2 + numberOf (c .why) ≡ 24 = ap tag q in
-          absurd (own-not (c .why) (opened-own b (c .why) (c .opens)) .1 (omega arith))
+          absurd (own-not (c .why) (openedFor-own b (c .why) (c .opens)) .1 (omega arith))
       by (inr (inl l)) = l
       by (inr (inr w)) = absurd (judged-no (firstBroken 1 rules (loraIn (w .frames))) (sym (whole-answer w) ∙ e))
 

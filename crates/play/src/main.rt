@@ -51,7 +51,7 @@ fn say_frames(reel: &[u8], line: &mut [u8]) -> bool {
     true
 }
 
-// The frames that the book holds; no reel of a book is longer.
+// The frames that the book holds, by a buffer that takes every reel of one.
 fn say_book(book: &[u8], line: &mut [u8]) -> bool {
     let mut reel = [0u8; book::LONGEST_REEL];
     let answer = book::replay(book, &mut reel);

@@ -26,7 +26,7 @@ use Rattle.book.specs.declared.Answer.{Answer}
 use Rattle.book.specs.declared.Answer.the-variants.{Done, Refused}
 use Rattle.book.specs.Plain.{Turn, askOn, become, clearOn, placed, putOn, refuse, removeOn, replayOn, tell, without}
 use Rattle.book.specs.Book.{Edit, Outcome, Permits, Read, Tells, Use, callFor, layoutIn, longestReel, onContents, opened, openedFor, ours, roomIn, verdict}
-use Rattle.book.proofs.Calls.{done-refused, opened-bytes, opened-judge, present-held}
+use Rattle.book.proofs.Calls.{Gives, opened-bytes, opened-judge, present-held}
 use Rattle.book.proofs.Versions.{edit-opened, edit-serves, edit-slots, openedFor-opened, turned-off}
 use Rattle.book.proofs.Kept.{Kept, opened-kept, remove-kept}
 use Rattle.book.proofs.History.{for-image}
@@ -40,18 +40,6 @@ use Rattle.sides.proofs.Means.{ask-means, emptied-rest, may-call, put-f
 use Rattle.sides.proofs.Weighing.{side-weight, weight-is, weight-placed}
 
 -- ---- what the code reads
-
--- the frames of a book that can be edited
-pub record Found (b : List ℕ) : Type 0 where
-  pub frames : List (List ℕ)
-  pub opens : openedFor Edit b ≡ holds frames
-
-pub found-frames : (b : List ℕ) (n : ℕ) → Done n ≡ verdict (openedFor Edit b) → Found b
-found-frames b n e = go (openedFor Edit b) refl e
-  where
-    go : (q : Contents) → openedFor Edit b ≡ q → Done n ≡ verdict q → Found b
-    go (refused x) w z = absurd (done-refused n x z)
-    go (holds fs) w z = record { frames = fs; opens = w }
 
 -- a book that a side may call
 pub record Open (t : OwnerTable) (w : ℕ) (b : List ℕ) : Type 0 where
@@ -95,23 +83,10 @@ module _ (m : ℕ) (t : OwnerTable) (w room : ℕ) (b : List ℕ) where
 
 -- ---- a side's call
 
--- what a call gives, all of it
-pub record Gives (u : Use) (s : List ℕ → ℕ → List (List ℕ) → Turn) (o b : List ℕ) (a : Answer) (x y : List ℕ) : Type 0 where
-  pub answer : a ≡ callFor u s o b .answer
-  pub output : x ≡ callFor u s o b .output
-  pub bytes : y ≡ callFor u s o b .bytes
-
-module _ (u : Use) (s : List ℕ → ℕ → List (List ℕ) → Turn) (o b : List ℕ) (a : Answer) (x y : List ℕ) (g : Gives u s o b a x y) where
-  pub permits : Permits (callFor u s o b) a y
-  permits = (g .answer, g .bytes)
-
-  pub tells : Tells (callFor u s o b) a x
-  tells = (g .answer, g .output)
-
 module _ (t : OwnerTable) (w : ℕ) (b : List ℕ) (B : Bytes b) where
   -- a step that refuses and keeps the frames keeps the bytes
   kept-away : (u : Use) (s : List ℕ → ℕ → List (List ℕ) → Turn) (o : List ℕ) (fs : List (List ℕ)) (x : Refusal) → openedFor u b ≡ holds fs
-      → s o (roomIn b) fs ≡ refuse x o fs → Gives u s o b (Refused x) o b
+      → s o (roomIn b) fs ≡ refuse x o fs → Gives (callFor u s o b) (Refused x) o b
   kept-away u s o fs x h e =
       let k = stays u b B fs h s o (ap (λ (y : Turn). y .frames) e) in
       record {
@@ -123,15 +98,13 @@ module _ (t : OwnerTable) (w : ℕ) (b : List ℕ) (B : Bytes b) where
   -- a refusal that the side's list gives comes behind the book's own
   away : (c : Request) (o : List ℕ) (x : Refusal)
       → ((fs : List (List ℕ)) → openedFor (wantsOf c) b ≡ holds fs → sideOn (layoutIn b .slots) t w c o (roomIn b) fs ≡ refuse x o fs)
-      → (a : Answer) → a ≡ behind (verdict (openedFor (wantsOf c) b)) x → Gives (wantsOf c) (sideOn (layoutIn b .slots) t w c) o b a o b
+      → (a : Answer) → a ≡ behind (verdict (openedFor (wantsOf c) b)) x → Gives (sideCall t w c o b) a o b
   away c o x s a e = go (openedFor (wantsOf c) b) refl e
     where
-      go : (q : Contents) → openedFor (wantsOf c) b ≡ q → a ≡ behind (verdict q) x → Gives (wantsOf c) (sideOn (layoutIn b .slots) t w c) o b a o b
-      go (refused y) h r =
-          let z = turned-off (sideOn (layoutIn b .slots) t w c) o b (wantsOf c) a y (r ∙ ap verdict (sym h)) r in
-          record { answer = z .0; output = z .1; bytes = z .2 }
+      go : (q : Contents) → openedFor (wantsOf c) b ≡ q → a ≡ behind (verdict q) x → Gives (sideCall t w c o b) a o b
+      go (refused y) h r = turned-off (sideOn (layoutIn b .slots) t w c) o b (wantsOf c) a y (r ∙ ap verdict (sym h)) r
       go (holds fs) h r =
-          subst (λ (y : Answer). Gives (wantsOf c) (sideOn (layoutIn b .slots) t w c) o b y o b) (sym r)
+          subst (λ (y : Answer). Gives (sideCall t w c o b) y o b) (sym r)
           (kept-away (wantsOf c) (sideOn (layoutIn b .slots) t w c) o fs x h (s fs h))
 
   -- a step that does to the book's frames what the side's call does is the call
@@ -153,12 +126,12 @@ module _ (t : OwnerTable) (w : ℕ) (b : List ℕ) (B : Bytes b) where
   wrong-frames bad fs h c o = side-wrong (layoutIn b .slots) t w (roomIn b) fs (sym (read-may t w b fs h) ∙ bad) c o
 
   pub wrong-kept : mayRead (layoutIn b .slots) t w (roomIn b) b ≡ false → (fs : List (List ℕ)) (c : Request) → openedFor (wantsOf c) b ≡ holds fs → (o : List ℕ)
-      → Gives (wantsOf c) (sideOn (layoutIn b .slots) t w c) o b (Refused OwnersWrong) o b
+      → Gives (sideCall t w c o b) (Refused OwnersWrong) o b
   wrong-kept bad fs c h o =
       kept-away (wantsOf c) (sideOn (layoutIn b .slots) t w c) o fs OwnersWrong h (wrong-frames bad fs (openedFor-opened (wantsOf c) b fs h) c o)
 
   pub wrong-away : mayRead (layoutIn b .slots) t w (roomIn b) b ≡ false → (c : Request) (o : List ℕ) (a : Answer)
-      → a ≡ behind (verdict (openedFor (wantsOf c) b)) OwnersWrong → Gives (wantsOf c) (sideOn (layoutIn b .slots) t w c) o b a o b
+      → a ≡ behind (verdict (openedFor (wantsOf c) b)) OwnersWrong → Gives (sideCall t w c o b) a o b
   wrong-away bad c o = away c o OwnersWrong (λ fs h. wrong-frames bad fs (openedFor-opened (wantsOf c) b fs h) c o)
 
   module _ (good : mayRead (layoutIn b .slots) t w (roomIn b) b ≡ true) where
@@ -169,7 +142,7 @@ module _ (t : OwnerTable) (w : ℕ) (b : List ℕ) (B : Bytes b) where
     enter fs h = record { frames = fs; opens = h; may = may fs h }
 
     pub barred-away : (c : Request) (o : List ℕ) → barred t w c ≡ true → (a : Answer) → a ≡ behind (verdict (openedFor (wantsOf c) b)) OtherSide
-        → Gives (wantsOf c) (sideOn (layoutIn b .slots) t w c) o b a o b
+        → Gives (sideCall t w c o b) a o b
     barred-away c o u =
         away c o OtherSide
         (λ fs h. side-barred (layoutIn b .slots) t w (roomIn b) fs (may fs (openedFor-opened (wantsOf c) b fs h)) c o u)
@@ -217,7 +190,7 @@ module _ (t : OwnerTable) (w : ℕ) (b : List ℕ) (B : Bytes b) where
             (opened-kept (layoutIn b) b fs (openedFor-opened Edit b fs h) .sound) f [] low u (omega (arith, weighed fs (openedFor-opened Edit b fs h))))
 
         pub put-away : quotaOf t w < r → (x : Answer) → x ≡ behind (verdict (openedFor Edit b)) NoRoom
-            → Gives Edit (sideOn (layoutIn b .slots) t w (Put f)) [] b x [] b
+            → Gives (sideCall t w (Put f) [] b) x [] b
         put-away q =
             away (Put f) [] NoRoom
             (λ fs h. put-full (layoutIn b .slots) t w (roomIn b) fs (may fs (openedFor-opened Edit b fs h)) f [] low u
@@ -226,13 +199,6 @@ module _ (t : OwnerTable) (w : ℕ) (b : List ℕ) (B : Bytes b) where
 -- a setting's frame is short
 pub setting-short : (f : List ℕ) (s : ℕ) → s ≡ slotOf f → s < settings → length f ≤ 255
 setting-short f s e a = let z : slotOf f < settings = omega arith in omega (arith, slotOf-length f z, size-high (slotOf f) z)
-
--- an outcome that is permitted of one call is permitted of an equal one
-pub permits-same : (p q : Outcome) (a : Answer) (y : List ℕ) → p ≡ q → Permits p a y → Permits q a y
-permits-same p q a y e h = (h .0 ∙ ap (λ (x : Outcome). x .answer) e, h .1 ∙ ap (λ (x : Outcome). x .bytes) e)
-
-pub tells-same : (p q : Outcome) (a : Answer) (y : List ℕ) → p ≡ q → Tells p a y → Tells q a y
-tells-same p q a y e h = (h .0 ∙ ap (λ (x : Outcome). x .answer) e, h .1 ∙ ap (λ (x : Outcome). x .output) e)
 
 -- the code's test of 18, by the slot that the call names
 pub foreign-named : (t : OwnerTable) (w s : ℕ) (r x : Bool) → r ≡ foreign t w s → r ≡ x → (c : Request) → s ≡ named t c → barred t w c ≡ x
@@ -302,7 +268,8 @@ module _ (k : ℕ) (b : List ℕ) (B : Bytes b) where
               ≡ image (layoutIn b) (length b) fs
           by true e =
               rw (
-                sym (present-held ours b fs (opened-judge ours b fs (edit-opened b fs h)) (slotFor k) (omega (arith, ltb-true (slotFor k) settings e))),
+                sym (present-held (layoutIn b) b fs (opened-judge (layoutIn b) b fs (openedFor-opened Edit b fs h)) (slotFor k)
+                    (omega (arith, edit-slots b fs h, ltb-true (slotFor k) settings e))),
                 eq-eqb
                     (offsetAt b (slotFor k)) 0 z,
               )
@@ -333,10 +300,9 @@ tell-apart x o fs gs = go (leb (length x) (length o))
 
 -- the replay into a buffer for every reel is refused only as the book is
 pub replay-away : (b o : List ℕ) → longestReel ≤ length o → (t : OwnerTable) (w : ℕ) (out : List ℕ) (a : Answer) (x : Refusal)
-    → a ≡ callFor Read replayOn o b .answer → a ≡ Refused x → Gives Read (sideOn (layoutIn b .slots) t w Replay) out b a out b
+    → a ≡ callFor Read replayOn o b .answer → a ≡ Refused x → Gives (sideCall t w Replay out b) a out b
 replay-away b o long t w out a x e z =
-    let k = turned-off (sideOn (layoutIn b .slots) t w Replay) out b Read a x (z ∙ sym (ap verdict (replay-refused b o long a x e z))) z in
-    record { answer = k .0; output = k .1; bytes = k .2 }
+    turned-off (sideOn (layoutIn b .slots) t w Replay) out b Read a x (z ∙ sym (ap verdict (replay-refused b o long a x e z))) z
 
 -- what is picked of it is the side's replay
 pub replay-call : (t : OwnerTable) (w : ℕ) (b : List ℕ) (O : Open t w b) → openedFor Read b ≡ holds (O .frames) → (o reel : List ℕ) (n : ℕ)

@@ -16,7 +16,7 @@ use Rattle.book.specs.Plain.{refuse}
 use Rattle.book.specs.Book.{layoutIn}
 use Rattle.book.specs.History.{Call, after}
 use Rattle.codec.proofs.Places.{decode-own}
-use Rattle.book.proofs.Places.{Near, Says, Steps, after-says, ask-says, call-says, clear-says, found-near}
+use Rattle.book.proofs.Places.{Near, Says, Steps, after-says, ask-says, call-says, clear-says, openedFor-near}
 use Rattle.book.proofs.Places.{openedFor-says, put-says, remove-says, replay-says, steps-near}
 use Rattle.sides.specs.Parts.{partOf}
 use Rattle.sides.specs.Calls.{Ask, Clear, Put, Remove, Replay, Request, amid, barred, edited, mayCall, ownTurn, sideCall, sideOn, stepOf, wantsOf}
@@ -44,7 +44,7 @@ module _ (P : Refusal → Type 0) (S : Steps P) where
 pub side-place : (b : List ℕ) (t : OwnerTable) (w : ℕ) (c : Request) (o : List ℕ) (x : Refusal) → sideCall t w c o b .answer ≡ Refused x → placeOf x ≤ 12
 side-place b t w c o x e =
     subst (Says Near) e
-    (call-says Near steps-near b (found-near b) (omega arith) (wantsOf c) (sideOn (layoutIn b .slots) t w c) o
+    (call-says Near steps-near b (openedFor-near b) (omega arith) (wantsOf c) (sideOn (layoutIn b .slots) t w c) o
     (λ o room fs. side-says Near steps-near (omega arith) (omega arith) (layoutIn b .slots) t w c o room fs))
 
 -- ---- the whole book

@@ -131,7 +131,7 @@ fn refused(found: Answer, why: Refusal) -> Answer
     Answer::Refused(why)
 }
 
-// The slot that an ask names, if the table has an entry for it.
+// The slot that an ask names, if the table has an entry for it; else the mark of an action.
 fn asked_slot(owners: &[u8], kind: u64) -> usize
     ensures { λ r. ⌜ r ≡ cond (ltb (slotFor kind) (length (now (owners .entry)))) (slotFor kind) action ⌝ }
 {

@@ -9,8 +9,8 @@ use Rattle.settings.specs.Settings.{sizeOf}
 use Rattle.contents.specs.Contents.{offsetFor}
 use Rattle.contents.proofs.Judged.{Bytes}
 use Rattle.book.specs.Book.{Read, layoutIn, verdict}
-use Rattle.book.proofs.Calls.{Holds, opened-holds}
-use Rattle.book.proofs.Versions.{Serves, off-tells, openedFor-serves, tells-for}
+use Rattle.book.proofs.Calls.{Holds, opened-holds, tells}
+use Rattle.book.proofs.Versions.{Serves, openedFor-serves, tells-for, turned-off}
 use Rattle.book.proofs.Telling.{ask-absent, ask-done, ask-inside, ask-none, ask-short}
 use Rattle.book.proofs.ask.Statement.{statement}
 use Rattle.book.proofs.ask.Tie as tie
@@ -43,7 +43,7 @@ inside c =
     ask-inside _ _ (bytes s) (known s) [] _ _ (s .slot-for .ensures) (c .before .before .before .if1 .taken) _ (stands (c .before)) (c .if2 .left)
 
 returns : tie.Need-returns
-returns c = off-tells _ _ _ Read _ _ (c .before .before .ready-to-read .ensures) (c .enum-told2 .given .1)
+returns c = tells _ _ _ _ (turned-off _ _ _ Read _ _ (c .before .before .ready-to-read .ensures) (c .enum-told2 .given .1))
 
 returns-2 : tie.Need-returns-2
 returns-2 c =

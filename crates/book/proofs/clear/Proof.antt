@@ -3,13 +3,13 @@ use borrow.Author.Needs.{needs}
 use denote.Ref.{now}
 use Rattle.filling.proofs.Filling.{blanked-image}
 use Rattle.book.specs.Book.{Edit, ours, verdict}
-use Rattle.book.proofs.Calls.{Holds, clear-done, holds-reads, opened-holds}
-use Rattle.book.proofs.Versions.{Serves, edit-serves, off-permits, permits-for}
+use Rattle.book.proofs.Calls.{Holds, clear-done, holds-reads, opened-holds, permits}
+use Rattle.book.proofs.Versions.{Serves, edit-serves, permits-for, turned-off}
 use Rattle.book.proofs.clear.Statement.{statement}
 use Rattle.book.proofs.clear.Tie as tie
 
 returns : tie.Need-returns
-returns c = off-permits _ _ _ Edit _ _ (c .before .before .ready-to-edit .ensures) (c .enum-told2 .given .1)
+returns c = permits _ _ _ _ (turned-off _ _ _ Edit _ _ (c .before .before .ready-to-edit .ensures) (c .enum-told2 .given .1))
 
 -- the bytes, past the check, are a book of our layout, and read as frames
 serving : (c : tie.After-enum-told) → Serves Edit ours (now (c .before .before .before .before .before .args .book))

@@ -8,8 +8,8 @@ use Rattle.settings.proofs.Settings.{lacks-kind, lacks-own, slotOf-kind, slotOf
 use Rattle.contents.proofs.Judged.{Bytes}
 use Rattle.book.specs.Book.{Edit, opened, ours, verdict}
 use Rattle.book.proofs.Putting.{put-bad}
-use Rattle.book.proofs.Calls.{Holds, opened-done, opened-holds}
-use Rattle.book.proofs.Versions.{Serves, edit-serves, off-permits, permits-for, permits-same}
+use Rattle.book.proofs.Calls.{Holds, done-nought, opened-holds, permits, permits-same}
+use Rattle.book.proofs.Versions.{Serves, edit-serves, for-layout, permits-for, turned-off}
 use Rattle.book.proofs.put.Statement.{statement}
 use Rattle.book.proofs.put.Tie as tie
 
@@ -18,7 +18,7 @@ serving : (c : tie.After-enum-told) → Serves Edit ours (now (c .before .before
 serving c = edit-serves _ _ (sym (c .enum-told .given .1) ∙ c .before .before .ready-to-edit .ensures)
 
 passed : (c : tie.After-enum-told) → Done 0 ≡ verdict (opened ours (now (c .before .before .before .before .before .before .args .book)))
-passed c = opened-done ours _ _ (sym (c .enum-told .given .1) ∙ c .before .before .ready-to-edit .ensures ∙ ap verdict (serving c .opens))
+passed c = done-nought (opened ours _) _ (sym (c .enum-told .given .1) ∙ c .before .before .ready-to-edit .ensures ∙ ap verdict (serving c .opens))
 
 known : (c : tie.After-enum-told) → Holds ours (now (c .before .before .before .before .before .before .args .book))
 known c = opened-holds ours _ 0 (passed c)
@@ -32,7 +32,7 @@ own : (c : tie.After-slot-for) → c .slot-for .result ≡ slotOf
 own c = c .slot-for .ensures ∙ slotOf-kind _ _ (c .before .before .before .before .decode .ensures) _ (c .before .before .answer .given .1)
 
 returns : tie.Need-returns
-returns c = off-permits _ _ _ Edit _ _ (c .before .before .ready-to-edit .ensures) (c .enum-told2 .given .1)
+returns c = permits _ _ _ _ (turned-off _ _ _ Edit _ _ (c .before .before .ready-to-edit .ensures) (c .enum-told2 .given .1))
 
 returns-2 : tie.Need-returns-2
 returns-2 c =
@@ -51,7 +51,7 @@ put-setting-requires c κs =
 returns-3 : tie.Need-returns-3
 returns-3 c =
     let e = c .before .before .before .before .before .before .before .before .before .before in
-    permits-same _ _ _ Edit ours (serving e) _ _ (c .before .before .put-setting .ensures)
+    permits-same _ _ _ _ (sym (for-layout _ _ _ Edit ours (serving e))) (c .before .before .put-setting .ensures)
 
 returns-4 : tie.Need-returns-4
 returns-4 c =

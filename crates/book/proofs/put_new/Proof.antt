@@ -78,7 +78,7 @@ returns c =
     let s = w .before .before .before .before .before .before in
     let z = c .before .before .before .before .before .size-of .ensures .0 in
     let a = s .before .args in
-    permits ours _ _ _ _ _ _
+    permits _ _ _ _
     (put-swap ours _ (bytes s) (known (s .before)) _ _ _ _ _ (new w) (i .if1 .taken) _
     (omega (arith, c .before .before .before .before .if2 .taken, z))
     (c .before .before .swap .ensures
@@ -89,7 +89,7 @@ returns-2 c =
     let i = c .before .before in
     let w = i .before in
     let s = w .before .before .before .before .before .before in
-    permits ours _ _ _ _ _ _
+    permits _ _ _ _
     (put-tight ours _ (bytes s) (known (s .before)) _ _ _ _ _ (new w) (i .if1 .taken) (omega (arith, c .if2 .left, c .before .size-of .ensures .0)))
 
 sub-if3 : tie.Need-sub-if3
@@ -103,7 +103,7 @@ returns-3 c =
     let i = t .before in
     let w = i .before in
     let s = w .before .before .before .before .before .before in
-    permits ours _ _ _ _ _ _
+    permits _ _ _ _
     (put-app ours _ (bytes s) (known (s .before)) _ _ _ _ _ (new w) (i .if1 .left) _ (omega arith) (omega (arith, t .if3 .taken))
     (c .before .before .append .ensures))
 
@@ -111,7 +111,7 @@ returns-4 : tie.Need-returns-4
 returns-4 c =
     let i = c .before in
     let s = i .before .before .before .before .before .before .before in
-    permits ours _ _ _ _ _ _ (put-full ours _ (bytes s) (known (s .before)) _ _ _ _ _ (new (i .before)) (i .if1 .left) (omega (arith, c .if3 .left)))
+    permits _ _ _ _ (put-full ours _ (bytes s) (known (s .before)) _ _ _ _ _ (new (i .before)) (i .if1 .left) (omega (arith, c .if3 .left)))
 
 pub put-new-spec : {M : Type 1} → statement M
 put-new-spec =

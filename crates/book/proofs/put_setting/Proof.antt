@@ -22,7 +22,7 @@ returns c =
     let w = i .before in
     let s = w .before .before .before in
     let p = s .before .pre in
-    permits ours _ _ _ _ _ _
+    permits _ _ _ _
     (put-over ours _ (bytes s) (known (s .before)) _ _ (p .1) (p .2) (omega arith) _ (w .offset .ensures .0) _ (i .if1 .taken)
     (c .before .before .write .ensures))
 

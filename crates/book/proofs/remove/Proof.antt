@@ -8,8 +8,8 @@ use Rattle.book.specs.Book.{Edit, ours, verdict}
 use Rattle.book.proofs.Known.{held-past, held-within, low-offsets}
 use Rattle.book.proofs.Removing.{remove-absent, remove-done, remove-none, some-held}
 use Rattle.book.specs.Edits.{takenOut}
-use Rattle.book.proofs.Calls.{Holds, holds-reads, opened-holds}
-use Rattle.book.proofs.Versions.{Serves, edit-serves, off-permits, permits-for}
+use Rattle.book.proofs.Calls.{Holds, holds-reads, opened-holds, permits}
+use Rattle.book.proofs.Versions.{Serves, edit-serves, permits-for, turned-off}
 use Rattle.book.proofs.remove.Statement.{statement}
 use Rattle.book.proofs.remove.Tie as tie
 
@@ -24,7 +24,7 @@ bytes : (c : tie.After-slot-for) → Bytes (now (c .before .before .before .befo
 bytes c = λ i. c .before .before .before .before .before .slice-known .given i .fits
 
 returns : tie.Need-returns
-returns c = off-permits _ _ _ Edit _ _ (c .before .before .ready-to-edit .ensures) (c .enum-told2 .given .1)
+returns c = permits _ _ _ _ (turned-off _ _ _ Edit _ _ (c .before .before .ready-to-edit .ensures) (c .enum-told2 .given .1))
 
 take-out-requires : tie.Need-take-out-requires
 take-out-requires c κs =

@@ -7,8 +7,8 @@ use Rattle.contents.specs.Contents.{framesFrom, start}
 use Rattle.contents.proofs.Judged.{Bytes}
 use Rattle.book.specs.Book.{Read, layoutIn, verdict}
 use Rattle.book.specs.Edits.{reelFrom}
-use Rattle.book.proofs.Calls.{Holds, holds-reads, opened-holds}
-use Rattle.book.proofs.Versions.{Serves, off-tells, openedFor-serves, tells-for}
+use Rattle.book.proofs.Calls.{Holds, holds-reads, opened-holds, tells}
+use Rattle.book.proofs.Versions.{Serves, openedFor-serves, tells-for, turned-off}
 use Rattle.book.proofs.Telling.{replay-done, replay-short}
 use Rattle.book.proofs.replay.Statement.{statement}
 use Rattle.book.proofs.replay.Tie as tie
@@ -24,7 +24,7 @@ bytes : (c : tie.After-enum-told) → Bytes (now (c .before .before .before .bef
 bytes c = λ i. c .before .before .before .before .shared-slice-known .given i .fits
 
 returns : tie.Need-returns
-returns c = off-tells _ _ _ Read _ _ (c .before .before .ready-to-read .ensures) (c .enum-told2 .given .1)
+returns c = tells _ _ _ _ (turned-off _ _ _ Read _ _ (c .before .before .ready-to-read .ensures) (c .enum-told2 .given .1))
 
 shared-slice-read-byte-to-usize : tie.Need-shared-slice-read-byte-to-usize
 shared-slice-read-byte-to-usize c =

@@ -4,7 +4,7 @@ use borrow.Author.Needs.{needs}
 use denote.Ref.{now}
 use Rattle.book.specs.declared.Answer.the-variants.{Done}
 use Rattle.book.specs.Book.{Edit, openedFor, verdict}
-use Rattle.book.proofs.Versions.{openedFor-done}
+use Rattle.book.proofs.Calls.{done-nought}
 use Rattle.playback.specs.Parts.{passFrom}
 use Rattle.playback.proofs.Running.{after-none, comes-same, comes-still, pass-refused, pass-sound}
 use Rattle.playback.proofs.pass.Statement.{statement}
@@ -12,7 +12,7 @@ use Rattle.playback.proofs.pass.Tie as tie
 
 -- past the check, the book is one that a call may use
 sound : (c : tie.After-enum-told) → Done 0 ≡ verdict (openedFor Edit (now (c .before .before .before .before .before .before .args .book)))
-sound c = openedFor-done Edit _ _ (sym (c .enum-told .given .1) ∙ c .before .before .ready-to-edit .ensures)
+sound c = done-nought (openedFor Edit _) _ (sym (c .enum-told .given .1) ∙ c .before .before .ready-to-edit .ensures)
 
 returns : tie.Need-returns
 returns c = pass-refused _ _ _ _ _ _ (c .before .before .ready-to-edit .ensures) (c .enum-told2 .given .1)

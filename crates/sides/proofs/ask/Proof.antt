@@ -4,7 +4,8 @@ use denote.Ref.{now}
 use Rattle.sides.specs.Calls.{Ask}
 use Rattle.contents.proofs.Judged.{Bytes}
 use Rattle.book.specs.Book.{Read}
-use Rattle.sides.proofs.Calling.{ask-call, barred-away, foreign-named, own-first, tells, tells-same, wrong-away}
+use Rattle.book.proofs.Calls.{tells, tells-same}
+use Rattle.sides.proofs.Calling.{ask-call, barred-away, foreign-named, own-first, wrong-away}
 use Rattle.sides.proofs.ask.Statement.{statement}
 use Rattle.sides.proofs.ask.Tie as tie
 
@@ -15,7 +16,7 @@ returns : tie.Need-returns
 returns c =
     let f = c .before .before .before in
     let m = f .before .before .before in
-    tells _ _ _ _ _ _ _
+    tells _ _ _ _
     (barred-away _ _ _ (bytes m) (sym (m .may-call .ensures) ∙ f .before .before .if1 .taken) (Ask _) _
     (foreign-named _ _ _ _ _ (f .is-foreign .ensures) (c .before .before .if2 .taken) (Ask _) (f .before .asked-slot .ensures)) _
     (own-first Read _ _ _ _ (c .refused .ensures) (c .before .ready-to-read .ensures)))
@@ -32,7 +33,7 @@ returns-2 c =
 returns-3 : tie.Need-returns-3
 returns-3 c =
     let m = c .before .before .before in
-    tells _ _ _ _ _ _ _
+    tells _ _ _ _
     (wrong-away _ _ _ (bytes m) (sym (m .may-call .ensures) ∙ c .before .before .if1 .left) (Ask _) _ _
     (own-first Read _ _ _ _ (c .refused2 .ensures) (c .before .ready-to-read2 .ensures)))
 

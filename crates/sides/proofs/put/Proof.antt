@@ -11,7 +11,8 @@ use Rattle.table.specs.Table.{settings}
 use Rattle.contents.proofs.Judged.{Bytes}
 use Rattle.owners.specs.Owners.{owns}
 use Rattle.book.specs.Book.{Edit, layoutIn}
-use Rattle.sides.proofs.Calling.{barred-away, foreign-named, own-first, permits, permits-same, put-away, put-call, put-other, setting-short, wrong-away}
+use Rattle.book.proofs.Calls.{permits, permits-same}
+use Rattle.sides.proofs.Calling.{barred-away, foreign-named, own-first, put-away, put-call, put-other, setting-short, wrong-away}
 use Rattle.sides.proofs.Weighing.{side-few}
 use Rattle.sides.specs.Means.{weightAfter, weightFrom}
 use Rattle.sides.proofs.put.Statement.{statement}
@@ -24,7 +25,7 @@ returns : tie.Need-returns
 returns c =
     let f = c .before .before .before .before in
     let m = f .before .before .before in
-    permits _ _ _ _ _ _ _
+    permits _ _ _ _
     (barred-away _ _ _ (bytes m) (sym (m .may-call .ensures) ∙ f .before .before .if1 .taken) (Put _) _
     (foreign-named _ _ _ _ _ (f .is-foreign .ensures) (c .before .before .before .if2 .taken) (Put _) (f .before .slot-of .ensures)) _
     (own-first Edit _ _ _ _ (c .refused .ensures) (c .before .ready-to-edit .ensures)))
@@ -87,7 +88,7 @@ returns-3 c =
     let t = i .before .before .before .before .before .before .before .before .before in
     let f = t .before .before in
     let m = f .before .before .before in
-    permits _ _ _ _ _ _ _
+    permits _ _ _ _
     (put-away _ _ _ (bytes m) (sym (m .may-call .ensures) ∙ f .before .before .if1 .taken) _ _ (f .before .slot-of .ensures)
     (foreign-named _ _ _ _ _ (f .is-foreign .ensures) (t .before .if2 .left) (Put _) (f .before .slot-of .ensures)) (t .if3 .taken) _ _
     (holding (i .before .before .before .before)) (weighed (i .before .before))
@@ -106,7 +107,7 @@ returns-4 c =
 returns-5 : tie.Need-returns-5
 returns-5 c =
     let m = c .before .before .before .before in
-    permits _ _ _ _ _ _ _
+    permits _ _ _ _
     (wrong-away _ _ _ (bytes m) (sym (m .may-call .ensures) ∙ c .before .before .before .if1 .left) (Put _) _ _
     (own-first Edit _ _ _ _ (c .refused3 .ensures) (c .before .ready-to-edit3 .ensures)))
 

@@ -9,7 +9,8 @@ use Rattle.contents.proofs.Judged.{Bytes}
 use Rattle.book.specs.Book.{Read, longestReel}
 use Rattle.book.proofs.Told.{Replayed, replay-told}
 use Rattle.book.proofs.Versions.{openedFor-opened}
-use Rattle.sides.proofs.Calling.{enter, own-first, replay-away, replay-call, tells, wrong-away}
+use Rattle.book.proofs.Calls.{tells}
+use Rattle.sides.proofs.Calling.{enter, own-first, replay-away, replay-call, wrong-away}
 use Rattle.sides.proofs.replay.Statement.{statement}
 use Rattle.sides.proofs.replay.Tie as tie
 
@@ -28,7 +29,7 @@ told c =
     replay-told _ _ long _ _ _ (r .replay .ensures .0) (r .replay .ensures .1) (c .before .told .given .1)
 
 returns : tie.Need-returns
-returns c = let r = c .before .before .before in tells _ _ _ _ _ _ _ (replay-away _ _ long _ _ _ _ _ (r .replay .ensures .0) (c .enum-told .given .1))
+returns c = let r = c .before .before .before in tells _ _ _ _ (replay-away _ _ long _ _ _ _ _ (r .replay .ensures .0) (c .enum-told .given .1))
 
 part-tell-part-end : tie.Need-part-tell-part-end
 part-tell-part-end c = told (c .before) .fits
@@ -49,7 +50,7 @@ returns-2 c =
 returns-3 : tie.Need-returns-3
 returns-3 c =
     let m = c .before .before .before in
-    tells _ _ _ _ _ _ _
+    tells _ _ _ _
     (wrong-away _ _ _ (bytes m) (sym (m .may-call .ensures) ∙ c .before .before .if1 .left) Replay _ _
     (own-first Read _ _ _ _ (c .refused .ensures) (c .before .ready-to-read .ensures)))
 
