@@ -14,7 +14,7 @@ use Rattle.book.specs.Plain.{Turn, askOn, become, clearOn, putOn, remove
 use Rattle.book.specs.Book.{Edit, Outcome, Read, Use, call, callFor, made, opened, openedFor, ours}
 use Rattle.book.specs.History.{Ask, Call, Clear, Make, Put, Remove, Replay, after, onBytes, onList, turn}
 use Rattle.book.proofs.Calls.{make-fits}
-use Rattle.book.proofs.Versions.{for-layout, image-serves}
+use Rattle.book.proofs.Versions.{Serves, for-layout, image-serves}
 use Rattle.book.proofs.Kept.{Kept, empty-kept, turn-kept}
 
 -- ---- runs, whatever the calls are
@@ -56,12 +56,15 @@ module _ (l : Layout) (n : ℕ) (low : start (l .slots) ≤ n) (high : n ≤ lon
 -- and of the one that is made
 module _ (n : ℕ) (low : start (ours .slots) ≤ n) (high : n ≤ longest) where
   module _ (fs : List (List ℕ)) (K : Kept (ours .slots) (roomOf ours n) fs) (u : Use) where
+    serving : Serves u ours (image ours n fs)
+    serving = image-serves u n fs (omega (arith, K .room)) high
+
     pub openedFor-image : openedFor u (image ours n fs) ≡ holds fs
-    openedFor-image = image-serves u n fs .opens ∙ opened-image ours n low high fs K
+    openedFor-image = serving .opens ∙ opened-image ours n low high fs K
 
     -- a call on it is the step on its list
     pub for-image : (s : List ℕ → ℕ → List (List ℕ) → Turn) (o : List ℕ) → callFor u s o (image ours n fs) ≡ shown ours n low high (s o (roomOf ours n) fs)
-    for-image s o = for-layout s o (image ours n fs) u ours (image-serves u n fs) ∙ call-image ours n low high s o fs K
+    for-image s o = for-layout s o (image ours n fs) u ours serving ∙ call-image ours n low high s o fs K
 
   pub after-image : (c : Call) (fs : List (List ℕ)) → Kept (ours .slots) (roomOf ours n) fs
       → after c (image ours n fs) ≡ shown ours n low high (turn (roomOf ours n) c fs)

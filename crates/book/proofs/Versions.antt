@@ -4,12 +4,14 @@
 -- Assumes nothing.
 use mathlib.Core.Path.{ap, refl, sym, _∙_, _≡_}
 use mathlib.Core.List.{List}
-use Prim.Native.Nat.{ℕ, _<_, _≤_}
+use Prim.Native.Nat.{ℕ, _+_, _<_, _≤_}
 use native.Mathlib.Omega.{arith}
+use lib.ListN.{length}
 use Rattle.refusal.specs.declared.Refusal.{Refusal}
 use Rattle.table.specs.Table.{settings}
 use Rattle.settings.specs.Settings.{slotFor}
-use Rattle.contents.specs.Contents.{Contents, Layout, holds, image, refused}
+use Rattle.contents.specs.Frames.{flat}
+use Rattle.contents.specs.Contents.{Contents, Layout, holds, image, longest, refused, start}
 use Rattle.book.specs.declared.Answer.{Answer}
 use Rattle.book.specs.declared.Answer.the-variants.{Done, Refused}
 use Rattle.book.specs.Plain.{Turn}
@@ -28,17 +30,18 @@ pub sync-slot : (b : List ℕ) → slotFor 20 < layoutIn b .slots
 unfolding layoutIn slotFor
 sync-slot b = omega arith
 
--- the book is of a layout that serves a use: what the use finds is what the layout says
+-- a book of a layout that serves a use: what the use finds is what the layout says
 pub record Serves (u : Use) (l : Layout) (b : List ℕ) : Type 0 where
   pub layout : layoutIn b ≡ l
   pub opens : openedFor u b ≡ opened l b
 
--- so does every book that is made
-pub image-serves : (u : Use) (n : ℕ) (fs : List (List ℕ)) → Serves u ours (image ours n fs)
-unfolding layoutIn openedFor
-image-serves u n fs = record { layout = refl; opens = refl }
+-- what is made, in a buffer of a book's size, serves every use
+pub image-serves : (u : Use) (n : ℕ) (fs : List (List ℕ)) → start (ours .slots) + length (flat fs) ≤ n → n ≤ longest → Serves u ours (image ours n fs)
+unfolding openedFor
+image-serves u n fs room high = record { layout = layout-image n fs; opens = ap (λ (l : Layout). opened l (image ours n fs)) (layout-image n fs) }
 
 module _ (b : List ℕ) (n : ℕ) where
+  -- what a use finds good is of a layout that serves it
   pub openedFor-serves : (u : Use) → Done n ≡ verdict (openedFor u b) → Serves u (layoutIn b) b
   unfolding openedFor
   openedFor-serves u e = record { layout = refl; opens = refl }
