@@ -3,7 +3,7 @@
 -- Assumes nothing.
 use mathlib.Core.Path.{refl, _≡_}
 use mathlib.Core.List.{List, [], _++_, _∷_}
-use Prim.Native.Nat.{ℕ}
+use Prim.Native.Nat.{ℕ, _-_}
 use lib.ListN.{replicate}
 use Rattle.frame.specs.Field.{mask, part, read, readTo}
 use Rattle.frame.specs.Layout.{byteOf, maskOf, reads, tab, tabFrom}
@@ -46,9 +46,9 @@ whitening = 0x02 ∷ 0x42 ∷ 0x00 ∷ 0x00 ∷ []
 path : List ℕ
 path = 0x02 ∷ 0x01 ∷ 0x00 ∷ []
 
--- the LoRa settings have the slots 0 to 11, the FSK settings 12 to 17, the common ones the rest
+-- the LoRa settings have the slots 0 to 11, the FSK settings 12 to 17; all behind them is side 1's too
 table : OwnerTable
-table = ownerTable (replicate 12 1 ++ (replicate 6 2 ++ replicate 11 1)) 7 4
+table = ownerTable (replicate 12 1 ++ (replicate 6 2 ++ replicate (ours .slots - 18) 1)) 7 4
 
 -- bytes written, or the refusal's number
 data Said : Type 0 where
