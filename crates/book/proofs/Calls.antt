@@ -56,6 +56,7 @@ pub record Finds (c : Contents) : Type 0 where
   pub frames : List (List ℕ)
   pub opens : c ≡ holds frames
 
+-- a verdict that is done has found some, and its number is 0
 pub done-finds : (c : Contents) (n : ℕ) → Done n ≡ verdict c → Finds c
 done-finds (refused x) n e = absurd (done-refused n x e)
 done-finds (holds fs) n e = record { frames = fs; opens = refl }

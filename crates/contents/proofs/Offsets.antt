@@ -15,13 +15,13 @@ use Rattle.contents.proofs.Shape.{Within, place-ge, place-none}
 use Rattle.contents.proofs.Judged.{Tiled, framesFrom-tiled, judge-reads, offsets}
 
 module _ (m : ℕ) (b : List ℕ) (s : ℕ) where
-  pub offset-among : s < m → offsetFor m b s ≡ offsetAt b s
-  unfolding offsetFor
-  offset-among h = rw (lt-ltb s m h)
-
   pub offset-outside : m ≤ s → offsetFor m b s ≡ 0
   unfolding offsetFor
   offset-outside h = rw (le-ltb s m h)
+
+  pub offset-among : s < m → offsetFor m b s ≡ offsetAt b s
+  unfolding offsetFor
+  offset-among h = rw (lt-ltb s m h)
 
   -- a slot that has an offset is among the slots
   pub offset-slot : (offsetFor m b s ≡ 0 → ⊥) → s < m

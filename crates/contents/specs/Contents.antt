@@ -45,7 +45,6 @@ unfoldable pub offsetAt : List ℕ → ℕ → ℕ
 unfolding wordAt
 offsetAt b s = wordAt b (4 + 2 * s)
 
--- whether the header has an offset for a slot
 -- the offset that a header of m slots has for a slot; 0 where it has none, since the slot is absent or not among the m
 unfoldable pub offsetFor : ℕ → List ℕ → ℕ → ℕ
 offsetFor m b s = cond (ltb s m) (offsetAt b s) 0

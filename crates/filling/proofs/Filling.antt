@@ -39,6 +39,15 @@ sole false = refl
 -- ---- sizes
 
 module _ (m n : ℕ) where
+  pub sized-means : sizedFor m n ≡ true → (start m ≤ n) × (n ≤ longest)
+  unfolding sizedFor
+  sized-means e = by (leb (start m) n) refl (leb n longest) refl e
+    where
+      by : (x : Bool) → leb (start m) n ≡ x → (y : Bool) → leb n longest ≡ y → x && y ≡ true → (start m ≤ n) × (n ≤ longest)
+      by true p true q z = (leb-true _ _ p, leb-true _ _ q)
+      by true p false q z = absurd (false≢true z)
+      by false p y q z = absurd (false≢true z)
+
   pub sized-fits : start m ≤ n → n ≤ longest → sizedFor m n ≡ true
   unfolding sizedFor
   sized-fits a b = rw (le-leb _ _ a, le-leb _ _ b)
@@ -54,15 +63,6 @@ module _ (m n : ℕ) where
   pub sized-rest : n ≤ longest → leb (start m) n ≡ sizedFor m n
   unfolding sizedFor
   sized-rest a = rw (le-leb n longest a) (sole (leb (start m) n))
-
-  pub sized-means : sizedFor m n ≡ true → (start m ≤ n) × (n ≤ longest)
-  unfolding sizedFor
-  sized-means e = by (leb (start m) n) refl (leb n longest) refl e
-    where
-      by : (x : Bool) → leb (start m) n ≡ x → (y : Bool) → leb n longest ≡ y → x && y ≡ true → (start m ≤ n) × (n ≤ longest)
-      by true p true q z = (leb-true _ _ p, leb-true _ _ q)
-      by true p false q z = absurd (false≢true z)
-      by false p y q z = absurd (false≢true z)
 
 -- ---- the empty book
 
@@ -91,18 +91,6 @@ pub record Room (m s n : ℕ) (b : List ℕ) : Type 0 where
   pub few : getD b 1 0 < mostCounted
 
 module _ (m s n : ℕ) (b : List ℕ) where
-  pub room-has : Room m s n b → hasRoom m s n b ≡ true
-  unfolding hasRoom
-  room-has R =
-      rw (
-        lt-ltb _ _ (R .setting),
-        lt-ltb _ _ (R .among),
-        sized-fits m (length b) (R .small) (R .big),
-        le-leb _ _ (R .low),
-        le-leb _ _ (R .high),
-        lt-ltb _ _ (R .few),
-      )
-
   pub has-room : hasRoom m s n b ≡ true → Room m s n b
   unfolding hasRoom
   has-room e =
@@ -129,6 +117,18 @@ module _ (m s n : ℕ) (b : List ℕ) where
             high = leb-true _ _ g;
             few = ltb-true _ _ h;
           }
+
+  pub room-has : Room m s n b → hasRoom m s n b ≡ true
+  unfolding hasRoom
+  room-has R =
+      rw (
+        lt-ltb _ _ (R .setting),
+        lt-ltb _ _ (R .among),
+        sized-fits m (length b) (R .small) (R .big),
+        le-leb _ _ (R .low),
+        le-leb _ _ (R .high),
+        lt-ltb _ _ (R .few),
+      )
 
 module _ (m s : ℕ) (f b : List ℕ) where
   pub appended-fits : Room m s (length f) b → appendedTo m s f b ≡ appended b f s (wordAt b 2)

@@ -28,8 +28,8 @@ appended b f s e = setWord (setWord (set (paste b e f (length f)) 1 (getD b 1 0 
 abbrev pub mostCounted : ℕ
 mostCounted = 255
 
--- n bytes of the slot s have room behind the frames: it is a setting's and the header has it, the buffer has the size of a book, from the frames' end,
--- which is not within the header, n bytes are left, and the count can be one more
+-- n bytes of the slot s have room behind the frames: the slot is a setting's and the header has it; the buffer has a book's size; the frames end behind
+-- the header, with n bytes left or more; and the count can be one more
 unfoldable pub hasRoom : ℕ → ℕ → ℕ → List ℕ → Bool
 hasRoom m s n b =
     ltb s settings
