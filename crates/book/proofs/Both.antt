@@ -1,6 +1,6 @@
 -- A stored book that holds a setting in both its forms: every call but make gets 16 and alters nothing, whatever it is asked (`both-refused`);
 -- what is no book by its size or bytes is refused for that first (`ten-first`), no other call gets 16 (`sixteen-only`),
--- and after a make none ever does (`never-sixteen`).
+-- and after a make none ever does (`never-sixteen`), nor after calls on a stored book that can be edited (`stored-sixteen`).
 -- Assumes nothing.
 use mathlib.Core.Path.{ap, refl, subst, sym, _∙_, _≡_}
 use mathlib.Core.Bool.{Bool, cond, false, false≢true, true}
@@ -11,13 +11,14 @@ use lib.ListN.{length}
 use Rattle.refusal.specs.declared.Refusal.{Refusal}
 use Rattle.refusal.specs.declared.Refusal.the-variants.{BothForms}
 use Rattle.refusal.specs.Numbers.{numberOf}
-use Rattle.contents.specs.Contents.{Contents, Layout, holds, judge, longest, refused, roomOf, start}
+use Rattle.contents.specs.Contents.{Contents, Layout, holds, judge, longest, refused, start}
+use Rattle.contents.proofs.Judged.{Bytes}
 use Rattle.contents.proofs.Places.{judge-own}
 use Rattle.forms.specs.Forms.{single}
 use Rattle.forms.proofs.Forms.{forms-single}
 use Rattle.book.specs.declared.Answer.the-variants.{Refused}
 use Rattle.book.specs.Book.{Edit, Read, Use, agreed, callFor, layoutIn, opened, openedFor, ours, verdict}
-use Rattle.book.specs.History.{Ask, Call, Clear, Make, Put, Remove, Replay, after, onBytes, onList, turn, wants}
+use Rattle.book.specs.History.{Ask, Call, Clear, Make, Put, Remove, Replay, after, onBytes, wants}
 use Rattle.book.specs.Plain.{Turn}
 use Rattle.codec.proofs.Places.{decode-own}
 use Rattle.book.proofs.Calls.{opened-forms, opened-judge}
@@ -25,6 +26,7 @@ use Rattle.book.proofs.Versions.{edit-opened, edit-serves, openedFor-re
 use Rattle.book.proofs.Keeps.{lentTo}
 use Rattle.book.proofs.Places.{Says, Steps, after-says, made-says}
 use Rattle.book.proofs.Single.{history-opens}
+use Rattle.book.proofs.Called.{stored-opens}
 
 -- whether a call is a make
 abbrev pub isMake : Call → Bool
@@ -122,16 +124,24 @@ module _ (b : List ℕ) where
       opens Clear e = refl
       opens (Replay o) e = refl
 
+-- ---- where none is given
+
+-- a book that can be edited gets none
+open-sixteen : (b : List ℕ) (fs : List (List ℕ)) → openedFor Edit b ≡ holds fs → (c : Call) → after c b .answer ≡ Refused BothForms → ⊥
+open-sixteen b fs h c e =
+    let two = sixteen-only b c e .1 in
+    let opens = edit-opened b fs h in
+    let own : layoutIn b ≡ ours = edit-serves b 0 (sym (ap verdict h)) .layout in
+    let same : holds (two .frames) ≡ holds fs = sym (two .reads) ∙ ap (λ (l : Layout). judge l b) own ∙ opened-judge ours b fs opens in
+    let frames : two .frames ≡ fs = cc in
+    false≢true (sym (two .two) ∙ ap single frames ∙ forms-single fs (opened-forms ours b fs opens))
+
 -- NO CALL OF OURS EVER LEADS TO A 16: after a make and whatever calls, no call gets it
 pub never-sixteen : (b : List ℕ) → start (ours .slots) ≤ length b → length b ≤ longest → (cs : List Call) (c : Call)
     → after c (onBytes after (Make ∷ cs) b .bytes) .answer ≡ Refused BothForms → ⊥
-never-sixteen b low high cs c e =
-    let x : List ℕ = onBytes after (Make ∷ cs) b .bytes in
-    let two = sixteen-only x c e .1 in
-    let opens = edit-opened x _ (history-opens b low high cs Edit) in
-    let reads = opened-judge ours _ _ opens in
-    let own : layoutIn x ≡ ours = edit-serves x 0 (sym (ap verdict (history-opens b low high cs Edit))) .layout in
-    let same : holds (two .frames) ≡ holds (onList (turn (roomOf ours (length b))) (Make ∷ cs) [] .frames) =
-    sym (two .reads) ∙ ap (λ (l : Layout). judge l x) own ∙ reads in
-    let frames : two .frames ≡ onList (turn (roomOf ours (length b))) (Make ∷ cs) [] .frames = cc in
-    false≢true (sym (two .two) ∙ ap single frames ∙ forms-single _ (opened-forms ours _ _ opens))
+never-sixteen b low high cs c e = open-sixteen (onBytes after (Make ∷ cs) b .bytes) _ (history-opens b low high cs Edit) c e
+
+-- nor does one after whatever calls on a stored book that can be edited: no call brings a second form into it
+pub stored-sixteen : (b : List ℕ) (fs : List (List ℕ)) → openedFor Edit b ≡ holds fs → Bytes b → (cs : List Call) (c : Call)
+    → after c (onBytes after cs b .bytes) .answer ≡ Refused BothForms → ⊥
+stored-sixteen b fs h B cs c e = open-sixteen (onBytes after cs b .bytes) _ (stored-opens b fs h B cs Edit) c e

@@ -1,9 +1,9 @@
 -- A frame of three bytes put into a made book: of 62 bytes, which refuses it for room, and of 65, which takes it, with the bytes that it then
--- has (REFERENCE, "Book"). And the two forms of the receive path (REFERENCE, "Short and long forms"): put one after the other, and both in a
--- stored book.
+-- has (REFERENCE, "Book"). Every refusal of a book, by number. And the two forms of the receive path (REFERENCE, "Short and long forms"): put one
+-- after the other, and both in a stored book.
 -- Assumes nothing.
 use mathlib.Core.Path.{refl, _≡_}
-use mathlib.Core.List.{List, [], _++_, _∷_}
+use mathlib.Core.List.{List, [], map, _++_, _∷_}
 use Prim.Native.Nat.{ℕ}
 use lib.ListN.{replicate}
 use Rattle.frame.specs.Field.{mask, part, read, readTo}
@@ -21,9 +21,9 @@ use Rattle.contents.specs.Frames.{flat, held, place}
 use Rattle.contents.specs.Contents.{allZero, framesFrom, header, image, judge, lengthAt, lengthBy, offsetAt, presentFrom}
 use Rattle.contents.specs.Contents.{roomOf, slotFrom, wordAt, words}
 use Rattle.forms.specs.Forms.{bothIn, inBoth, other, otherIn, single}
-use Rattle.book.specs.Plain.{askOn, frameOf, placed, putOn, removeOn, replayOn, seat, swapIn, without}
+use Rattle.book.specs.Plain.{askOn, clearOn, frameOf, placed, putOn, removeOn, replayOn, seat, swapIn, without}
 use Rattle.book.specs.Book.{Outcome, callFor, layoutIn, made, opened, openedFor, ours}
-use Rattle.book.specs.History.{Ask, Call, Put, Remove, Replay, after, onList, turn}
+use Rattle.book.specs.History.{Ask, Call, Clear, Make, Put, Remove, Replay, after, onList, turn}
 
 -- syncword 0x34
 sync : List ℕ
@@ -49,6 +49,37 @@ unfolding sync made callFor openedFor layoutIn opened judge image header words p
     bothIn putOn placed seat other otherIn held slotOf slotFor decode sought answered judged known stray lacking find takes isIn lists rxBwCodes narrowOf
     narrowsOf tab tabFrom byteOf maskOf reads part mask read readTo
 example = (refl, refl, refl)
+
+-- ---- every refusal of a book, by number
+
+-- a channel activity detection: an action
+detection : List ℕ
+detection = 0x02 ∷ 0x28 ∷ []
+
+-- what is said in a buffer of n zeros, in a fresh book, and in one that holds the syncword
+abbrev inZeros : Call → ℕ → Told
+inZeros c n = told (after c (replicate n 0) .answer)
+
+abbrev inFresh : Call → Told
+inFresh c = told (after c (made ours (replicate 65 0) .bytes) .answer)
+
+abbrev inFilled : Call → Told
+inFilled c = told (after c (image ours 65 (sync ∷ [])) .answer)
+
+-- A make goes by the length alone. What is put has to decode, and then to be a setting's; a kind has to be a setting's and then held, and an output
+-- long enough.
+refusals :
+    (map (inZeros Make) (61 ∷ 62 ∷ 4096 ∷ 4097 ∷ []) ≡ refusal 11 ∷ done 0 ∷ done 0 ∷ refusal 11 ∷ [])
+    × (map (inZeros Clear) (61 ∷ 62 ∷ 4096 ∷ 4097 ∷ []) ≡ refusal 11 ∷ refusal 10 ∷ refusal 10 ∷ refusal 11 ∷ [])
+    × (map inFresh (Put [] ∷ Put detection ∷ Remove 0 ∷ Remove 8 ∷ Remove 40 ∷ Remove 4 ∷ [])
+    ≡ refusal 1 ∷ refusal 13 ∷ refusal 13 ∷ refusal 13 ∷ refusal 13 ∷ refusal 9 ∷ [])
+    × (map inFresh (Ask 0 [] ∷ Ask 8 [] ∷ Ask 40 [] ∷ Ask 4 [] ∷ Replay [] ∷ []) ≡ refusal 13 ∷ refusal 13 ∷ refusal 13 ∷ refusal 9 ∷ done 0 ∷ [])
+    × (map inFilled (Ask 4 (replicate 2 0) ∷ Ask 4 (replicate 3 0) ∷ Replay (replicate 3 0) ∷ Replay (replicate 4 0) ∷ [])
+    ≡ refusal 12 ∷ done 3 ∷ refusal 12 ∷ done 4 ∷ [])
+unfolding sync detection made callFor openedFor layoutIn opened judge image header words place flat presentFrom offsetAt wordAt allZero framesFrom lengthAt
+    lengthBy slotFrom sizeOf lengths single inBoth bothIn putOn removeOn askOn replayOn clearOn frameOf reelOf held slotOf slotFor decode sought answered
+    judged known stray lacking find takes isIn lists rxBwCodes narrowOf narrowsOf tab tabFrom byteOf maskOf reads part mask read readTo
+refusals = (refl, refl, refl, refl, refl)
 
 -- ---- the two forms of the receive path
 

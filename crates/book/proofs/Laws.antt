@@ -208,7 +208,7 @@ without-order s (g ∷ fs) = go (without-order s fs) (eqb (slotOf g) s)
 -- ---- room
 
 -- an answer's number: 0 where the call is done
-abbrev number : Answer → ℕ
+abbrev pub number : Answer → ℕ
 number (Done n) = 0
 number (Refused x) = numberOf x
 

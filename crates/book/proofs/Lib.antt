@@ -17,6 +17,9 @@ pub mod Single
 pub mod Told
 pub mod Loading
 pub mod Full
+pub mod Called
+pub mod Answers
+pub mod Asked
 pub mod Places
 pub mod Both
 pub mod SyncWord

@@ -56,7 +56,8 @@ abbrev pub toRead : Use → Bool
 toRead Read = true
 toRead Edit = false
 
--- A book as a call finds it, by its bytes alone: every refusal of a whole book stands here, and nowhere else. Both uses find the same.
+-- A book as a call finds it, by its bytes alone: every refusal of a whole book stands here, but for
+-- that of a make, which looks at the length alone (`made`). Both uses find the same.
 unfoldable pub openedFor : Use → List ℕ → Contents
 openedFor u b = opened (layoutIn b) b
 

@@ -62,7 +62,7 @@ fn is_sound(book: &[u8], version: u8, slots: usize) -> Answer
     }
 }
 
-// Whether the bytes are a book that can be read. Every refusal of a whole book is given by this function or the next.
+// Whether the bytes are a book that can be read. Every refusal of a whole book is given by this function or the next, but for that of a make.
 pub fn ready_to_read(book: &[u8]) -> Answer
     ensures { λ r. ⌜ r ≡ verdict (openedFor Read (now (book .entry))) ⌝ }
 {

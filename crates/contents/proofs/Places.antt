@@ -1,10 +1,13 @@
--- What `judge` refuses is 11 or 10 (`judge-own`), and carries no place (`judge-place`).
+-- What `judge` refuses is 11 or 10 (`judge-own`), and carries no place (`judge-place`); it is 11 exactly for a buffer shorter than its header or longer
+-- than 4,096 bytes (`judge-eleven`, `eleven-judge`).
 -- Assumes nothing.
 use mathlib.Core.Path.{refl, subst, _≡_}
 use mathlib.Core.Bool.{Bool, cond, false, true}
 use mathlib.Core.List.{List, []}
-use Prim.Native.Nat.{suc, zero, ℕ, _+_, _≤_}
+use mathlib.Core.Logic.{inl, inr, _⊎_}
+use Prim.Native.Nat.{suc, zero, ℕ, _*_, _+_, _<_, _≤_}
 use native.Mathlib.Omega.{arith}
+use borrow.Author.Tests.{leb-false, lt-leb}
 use lib.Dec.{eqb, leb}
 use lib.ListN.{drop, getD, length, take}
 use Rattle.refusal.specs.declared.Refusal.{Refusal}
@@ -49,6 +52,35 @@ module _ (P : Refusal → Type 0) (form : P NotWellFormed) where
       (given-says (eqb (presentFrom (l .slots) b 0) (getD b 1 0)) NotWellFormed _ form
       (given-says (allZero (drop (wordAt b 2) b)) NotWellFormed _ form
       (frames-say (l .slots) (getD b 1 0) b (start (l .slots)) (wordAt b 2))))))))
+
+-- the sizes that no buffer may have: less than the bytes before the frames, or more than 4,096
+abbrev pub WrongSize : Layout → List ℕ → Type 0
+WrongSize l b = (length b < 4 + 2 * l .slots) ⊎ (4096 < length b)
+
+module _ (l : Layout) (b : List ℕ) where
+  pub eleven-judge : WrongSize l b → judge l b ≡ refused BufferSize
+  unfolding judge
+  eleven-judge (inl a) = rw (lt-leb _ _ a)
+  eleven-judge (inr a) = by (leb (start (l .slots)) (length b)) _
+    where
+      past : longest < length b
+      past = omega arith
+
+      by : (t : Bool) (c : Contents) → given t BufferSize (given (leb (length b) longest) BufferSize c) ≡ refused BufferSize
+      by true c = rw (lt-leb _ _ past)
+      by false c = refl
+
+  pub judge-eleven : judge l b ≡ refused BufferSize → WrongSize l b
+  judge-eleven e = subst (Says Sized form) e (judge-says Sized form l b (λ q z. inl (leb-false _ _ q)) (λ q z. inr (past (leb-false _ _ q)))) refl
+    where
+      past : longest < length b → 4096 < length b
+      past a = omega arith
+
+      Sized : Refusal → Type 0
+      Sized x = numberOf x ≡ 11 → WrongSize l b
+
+      form : Sized NotWellFormed
+      form z = absurd (omega arith)
 
 module _ (l : Layout) (b : List ℕ) (x : Refusal) (e : judge l b ≡ refused x) where
   pub judge-place : placeOf x ≡ 0

@@ -3,6 +3,7 @@
 --     size-low         no setting's frame has less than three bytes
 --     slot-one         a slot has one kind
 --     setting-kinds    the ten actions, by number
+--     lacks-thirteen   which get 13
 -- Assumes nothing.
 use mathlib.Core.Path.{ap, refl, sym, _∙_, _≡_}
 use mathlib.Core.Bool.{Bool, cond, false, false≢true, not, true, _&&_}
@@ -16,6 +17,7 @@ use Rattle.table.specs.Codes.{isIn}
 use Rattle.table.specs.Table.{action, kinds, lenOf, rowOf, rows, settings}
 use Rattle.refusal.specs.declared.Refusal.{Refusal}
 use Rattle.refusal.specs.declared.Refusal.the-variants.{NotAKind}
+use Rattle.refusal.specs.Numbers.{numberOf}
 use Rattle.table.specs.Table.{isKind}
 use Rattle.decoder.specs.Decoding.{Reading, decode, decoded, reading, refuses}
 use Rattle.decoder.specs.declared.Decoded.{Decoded}
@@ -172,7 +174,7 @@ module _ (f : List ℕ) (d : Decoded) (p : d ≡ decoded (decode f)) where
   unfolding slotOf
   slotOf-none x q = ap slotIn (sym (decoded-refuses (decode f) d x p q))
 
-  -- why it is no setting
+  -- why it is no setting: a frame that decodes is an action's, and else the decoder's refusal is the answer
   pub lacks-kind : (k : ℕ) → d .answer ≡ decoder.Kind k → lacks (decode f) ≡ NotAKind
   lacks-kind k q = ap lacks (decoded-reading (decode f) d k p q)
 
@@ -180,6 +182,10 @@ module _ (f : List ℕ) (d : Decoded) (p : d ≡ decoded (decode f)) where
   lacks-own x q = ap lacks (decoded-refuses (decode f) d x p q)
 
 -- ---- by number
+
+-- a frame that decodes and is no setting's gets 13
+pub lacks-thirteen : (k : ℕ) (vs : List ℕ) → numberOf (lacks (reading k vs)) ≡ 13
+lacks-thirteen k vs = refl
 
 -- the kinds that are no settings
 abbrev pub actions : List ℕ
