@@ -96,7 +96,7 @@ fn is_joined(owners: &[u8]) -> bool
 }
 
 // Whether the table is right beside a book of so many slots with room for so many bytes of frames. The quotas are not added, since their sum
-// may be past every number.
+// may be past 64 bits.
 pub fn is_right(owners: &[u8], slots: usize, room: u64, quota1: u64, quota2: u64) -> bool
     ensures { λ r. ⌜ r ≡ tableRight slots room (ownerTable (now (owners .entry)) quota1 quota2) ⌝ }
 {

@@ -1,6 +1,5 @@
 -- Neither side can tell what the other does: of a book that is written by the sides' calls alone, a side hears what its own calls give on its own
--- list alone (`side-alone`), so two histories that agree on its calls give it the same answers and outputs (`no-interference`); and neither
--- side's frames ever exceed its quota (`never-over`).
+-- list alone (`side-alone`), so two histories that agree on its calls give it the same answers and outputs (`no-interference`).
 -- Assumes nothing.
 use mathlib.Core.Path.{ap, ap₂, refl, subst, sym, _∙_, _≡_}
 use mathlib.Core.Bool.{Bool, and-true, cond, false, false≢true, true, _&&_}
@@ -14,20 +13,19 @@ use Rattle.refusal.specs.declared.Refusal.the-variants.{OwnersWrong}
 use Rattle.contents.specs.Frames.{flat}
 use Rattle.contents.specs.Contents.{longest, roomOf, start}
 use Rattle.owners.specs.Owners.{OwnerTable, isSide, quotaOf, tableRight}
-use Rattle.settings.proofs.Settings.{both}
 use Rattle.book.specs.declared.Answer.{Answer}
 use Rattle.book.specs.declared.Answer.the-variants.{Done, Refused}
 use Rattle.book.specs.Plain.{Turn, refuse}
 use Rattle.book.specs.Book.{made, ours}
-use Rattle.book.specs.History.{BytesRun, Call, Heard, isRead, onBytes, onList, turn}
+use Rattle.book.specs.History.{BytesRun, Call, Heard, isRead, onBytes, onList}
 use Rattle.book.specs.History as whole
-use Rattle.book.proofs.Reading.{read-frames}
-use Rattle.sides.specs.Parts.{chosen, partOf, withinQuotas}
+use Rattle.sides.specs.Parts.{withinQuotas}
 use Rattle.sides.specs.Calls.{mayCall, ownTurn}
 use Rattle.sides.specs.Histories.{Event, Side, SideCall, Whole, afterEvent, alone, answered, byTwoLists, bySides}
 use Rattle.sides.specs.Histories.{callsOf, heardBy, heardOf, jointly}
 use Rattle.sides.specs.Histories.{ownAfter, sharedBy}
-use Rattle.sides.proofs.Quotas.{by-side, own-stays, quotas-within, side-within, within-quota}
+use Rattle.sides.proofs.Reading.{sides-next}
+use Rattle.sides.proofs.Quotas.{by-side, own-stays, quotas-within, within-quota}
 use Rattle.sides.proofs.History.{shared-history, side-history}
 
 module _ (m room : ℕ) (t : OwnerTable) where
@@ -137,7 +135,7 @@ module _ (m room : ℕ) (t : OwnerTable) where
     lists-alone (e ∷ es) [] g1 g2 n s q = absurd (omega arith)
     lists-alone (Side c ∷ es) (h ∷ hs) g1 g2 n s q = call-next c es (lists-alone es) h hs g1 g2 (omega arith) s q
     lists-alone (Whole c ∷ es) (h ∷ hs) g1 g2 n s q =
-        let r = both (isRead c) (bySides es) s in
+        let r = sides-next c es s in
         rw (read-leaves c (r .0) (h .answer) 1 g1, read-leaves c (r .0) (h .answer) 2 g2) (lists-alone es hs g1 g2 (omega arith) (r .1) q)
 
 -- ---- on bytes
@@ -175,23 +173,3 @@ module _ (t : OwnerTable) where
       middle : onList (alone (ours .slots) (roomOf ours (length b)) t) (callsOf w es) [] .heard
           ≡ onList (alone (ours .slots) (roomOf ours (length d)) t) (callsOf w ds) [] .heard
       middle = rw (n, e)
-
--- ---- the quotas
-
-module _ (m room : ℕ) (t : OwnerTable) where
-  abbrev Fits : List (List ℕ) → Type 0
-  Fits fs = withinQuotas t (partOf t 1 fs) (partOf t 2 fs) ≡ true
-
-  stays : (es : List Event) (fs : List (List ℕ)) → bySides es ≡ true → Fits fs → Fits (onList (jointly m room t) es fs .frames)
-  unfolding onList bySides
-  stays [] fs s h = h
-  stays (Side c ∷ es) fs s h = stays es (jointly m room t (Side c) fs .frames) s (side-within m room t fs h (c .who) (c .what) (c .output))
-  stays (Whole c ∷ es) fs s h =
-      let r = both (isRead c) (bySides es) s in
-      stays es (turn room c fs .frames) (r .1) (subst Fits (sym (read-frames room c (r .0) fs)) h)
-
-  -- BY THE SIDES' CALLS ALONE NEITHER SIDE EVER EXCEEDS ITS QUOTA, over every list of events from the empty list
-  pub never-over : (es : List Event) → bySides es ≡ true
-      → withinQuotas t (partOf t 1 (onList (jointly m room t) es [] .frames)) (partOf t 2 (onList (jointly m room t) es [] .frames)) ≡ true
-  unfolding chosen flat
-  never-over es s = stays es [] s (quotas-within t [] [] (omega arith) (omega arith))

@@ -21,7 +21,7 @@ use Rattle.contents.specs.Contents.{Contents, Layout, holds, image, longest, of
 use Rattle.contents.proofs.Judged.{Bytes, Reads, judge-reads}
 use Rattle.contents.proofs.Loops.{minus-end, minus-step}
 use Rattle.owners.specs.Owners.{OwnerTable, isSide, owns, quotaOf, tableRight}
-use Rattle.owners.proofs.Laws.{owns-other, table-right}
+use Rattle.owners.proofs.Laws.{means-side, owns-other}
 use Rattle.book.specs.declared.Answer.{Answer}
 use Rattle.book.specs.declared.Answer.the-variants.{Done, Refused}
 use Rattle.book.specs.Plain.{Turn, askOn, become, clearOn, placed, putOn, refuse, removeOn, replayOn, tell, without}
@@ -36,7 +36,8 @@ use Rattle.sides.specs.Parts.{chosen, partOf, restOf, withinQuotas}
 use Rattle.sides.specs.Calls.{Ask, Clear, Put, Remove, Replay, Request, barred, foreign, mayCall, named, sideCall, sideOn, wantsOf}
 use Rattle.sides.specs.Means.{Retold, behind, emptied, emptiedBytes, mayRead, picked, weightAfter, weightFrom}
 use Rattle.sides.proofs.Views.{own-slot}
-use Rattle.sides.proofs.Means.{ask-means, emptied-rest, may-call, put-full, put-means, put-none, remove-means, side-barred, side-step, side-wrong}
+use Rattle.sides.proofs.Answers.{may-call, side-barred, side-step, side-wrong}
+use Rattle.sides.proofs.Means.{ask-means, emptied-rest, put-full, put-means, put-none, remove-means}
 use Rattle.sides.proofs.Weighing.{side-weight, weight-is, weight-placed}
 
 -- ---- what the code reads
@@ -176,12 +177,12 @@ module _ (t : OwnerTable) (w : ℕ) (b : List ℕ) (B : Bytes b) where
 
         weighed : (fs : List (List ℕ)) → opened (layoutIn b) b ≡ holds fs → r ≡ length (flat (placed f (partOf t w fs)))
         weighed fs h =
-            let M = may-call (layoutIn b .slots) t w (roomIn b) fs (may fs h) in
+            let M = may-call (layoutIn b .slots) t w (roomIn b) (partOf t 1 fs) (partOf t 2 fs) (may fs h) in
             g
             ∙ ap₂ (λ (x y : ℕ). weightAfter (layoutIn b .slots) b x y (length f)) e
-            (k ∙ side-weight (layoutIn b .slots) b (t .owners) w (M .side) ∙ weight-is (layoutIn b) b fs h (owns (t .owners) w))
+            (k ∙ side-weight (layoutIn b .slots) b (t .owners) w (means-side w (M .caller)) ∙ weight-is (layoutIn b) b fs h (owns (t .owners) w))
             ∙ weight-placed (layoutIn b) b fs h t w f low own
-            (owns-other (t .owners) (table-right (layoutIn b .slots) (roomIn b) t (M .right) .whole) w (slotOf f) ∙ own)
+            (owns-other (t .owners) (M .right .whole) w (slotOf f) ∙ own)
 
         pub put-call : r ≤ quotaOf t w → callFor Edit (putOn f) [] b ≡ sideCall t w (Put f) [] b
         put-call q =

@@ -28,34 +28,34 @@ use Rattle.sides.specs.Calls.{Ask, Clear, Put, Remove, Replay, barred, m
 use Rattle.sides.specs.Histories.{Event, Whole, by, jointly}
 
 -- frames of kinds 4, 3 and 14 (LoRa), 21 and 18 (FSK), and 25 (common)
-syncword : List ℕ
+unfoldable pub syncword : List ℕ
 syncword = 0x02 ∷ 0x23 ∷ 0x34 ∷ []
 
-timeout : List ℕ
+unfoldable pub timeout : List ℕ
 timeout = 0x02 ∷ 0x22 ∷ 0x05 ∷ 0x01 ∷ []
 
-timing : List ℕ
+unfoldable pub timing : List ℕ
 timing = 0x02 ∷ 0x1D ∷ 0x00 ∷ []
 
-address : List ℕ
+unfoldable pub address : List ℕ
 address = 0x02 ∷ 0x45 ∷ 0x01 ∷ 0x02 ∷ []
 
-whitening : List ℕ
+unfoldable pub whitening : List ℕ
 whitening = 0x02 ∷ 0x42 ∷ 0x00 ∷ 0x00 ∷ []
 
-path : List ℕ
+unfoldable pub path : List ℕ
 path = 0x02 ∷ 0x01 ∷ 0x00 ∷ []
 
 -- the LoRa settings have the slots 0 to 11, the FSK settings 12 to 17; all behind them is side 1's too
-table : OwnerTable
+unfoldable pub table : OwnerTable
 table = ownerTable (replicate 12 1 ++ (replicate 6 2 ++ replicate (ours .slots - 18) 1)) 7 4
 
 -- bytes written, or the refusal's number
-data Said : Type 0 where
+pub data Said : Type 0 where
   done : ℕ → Said
   refusal : ℕ → Said
 
-abbrev told : Answer → Said
+abbrev pub told : Answer → Said
 told (Done n) = done n
 told (Refused x) = refusal (numberOf x)
 
@@ -74,7 +74,7 @@ Story [] fs = Unit
 Story (s ∷ ss) fs = (told (jointly (ours .slots) 11 table (s .event) fs .answer) ≡ s .answer) × (jointly (ours .slots) 11 table (s .event) fs .frames
     ≡ s .frames) × Story ss (s .frames)
 
-abbrev filled : List (List ℕ)
+abbrev pub filled : List (List ℕ)
 filled = syncword ∷ address ∷ timeout ∷ []
 
 abbrev installed : List (List ℕ)
@@ -92,7 +92,8 @@ story : Story (
     ∷ step (by 2 (Remove 4) []) (refusal 18) filled
     ∷ step (by 1 (Ask 21) (replicate 12 0)) (refusal 18) filled
     ∷ step (by 1 (Ask 16) (replicate 12 0)) (refusal 18) filled
-    -- its own that it does not hold, no setting, no side
+    -- its own, held or not, no setting, no side
+    ∷ step (by 1 (Ask 4) (replicate 12 0)) (done 3) filled
     ∷ step (by 2 (Ask 18) (replicate 12 0)) (refusal 9) filled
     ∷ step (by 1 (Remove 8) []) (refusal 13) filled
     ∷ step (by 3 Clear []) (refusal 17) filled
@@ -114,7 +115,7 @@ unfolding table syncword timeout timing address whitening path turn sideOn mayCa
     joinedIn owns chosen withinQuotas putOn removeOn askOn replayOn clearOn placed seat held frameOf swapIn without flat reelOf other otherIn slotOf
     slotFor decode sought answered judged known stray lacking find takes isIn lists rxBwCodes narrowOf narrowsOf tab tabFrom byteOf maskOf reads part mask
     read readTo
-story = (refl, refl, (refl, refl, (refl, refl, (refl, refl, (refl, refl, (refl, refl, (refl, refl, (refl, refl, (refl, refl, (refl, refl, (refl, refl, (refl, refl, (refl, refl, (refl, refl, (refl, refl, (refl, refl, (refl, refl, (refl, refl, (refl, refl, (refl, refl, (refl, refl, (refl, refl, tt))))))))))))))))))))))
+story = (refl, refl, (refl, refl, (refl, refl, (refl, refl, (refl, refl, (refl, refl, (refl, refl, (refl, refl, (refl, refl, (refl, refl, (refl, refl, (refl, refl, (refl, refl, (refl, refl, (refl, refl, (refl, refl, (refl, refl, (refl, refl, (refl, refl, (refl, refl, (refl, refl, (refl, refl, (refl, refl, tt)))))))))))))))))))))))
 
 -- and a side's replay has its own frames alone
 replays : (jointly (ours .slots) 11 table (by 1 Replay (replicate 10 0)) filled .output ≡ 3 ∷ syncword ++ (4 ∷ timeout ++ (0 ∷ [])))

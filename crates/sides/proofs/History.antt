@@ -1,5 +1,5 @@
 -- A shared book's history: on a fresh book every list of both sides' calls and of whole-book calls gives the answers, the outputs and the bytes of
--- the joint list (`shared-history`), and each side's call the answer and the output of two plain lists (`side-history`).
+-- the joint list (`shared-history`, and `shared-from` from any list that a book can hold), and each side's call the answer and the output of two plain lists (`side-history`).
 -- Assumes nothing.
 use mathlib.Core.Path.{ap, ap₂, refl, subst, sym, _∙_, _≡_}
 use mathlib.Core.Bool.{Bool, cond, false, true, _&&_}
@@ -16,8 +16,8 @@ use Rattle.table.specs.Table.{settings}
 use Rattle.settings.specs.Settings.{lacks, slotFor, slotOf}
 use Rattle.contents.specs.Frames.{flat, held}
 use Rattle.contents.specs.Contents.{Layout, image, longest, roomOf, start}
-use Rattle.owners.specs.Owners.{OwnerTable, isSide, joined, owns, tableRight}
-use Rattle.owners.proofs.Laws.{owns-other, table-right}
+use Rattle.owners.specs.Owners.{OwnerTable, isSide, owns, tableRight}
+use Rattle.owners.proofs.Laws.{OneOwner, owns-other, table-right}
 use Rattle.book.specs.declared.Answer.{Answer}
 use Rattle.book.specs.declared.Answer.the-variants.{Done, Refused}
 use Rattle.book.specs.Plain.{Turn, askOn, become, clearOn, placed, putOn, refuse, removeOn, replayOn, tell, without}
@@ -47,6 +47,17 @@ module _ (t : OwnerTable) where
       ∙ for-image n low high fs K (wantsOf (c .what)) (sideOn (ours .slots) t (c .who) (c .what)) (c .output)
   event-image n low high (Whole c) fs K = after-image n low high c fs K
 
+  -- from any list that a book can hold
+  pub shared-from : (n : ℕ) → start (ours .slots) ≤ n → n ≤ longest → (es : List Event) (fs : List (List ℕ)) → Kept (ours .slots) (roomOf ours n) fs
+      → onBytes (afterEvent t) es (image ours n fs)
+      ≡ record {
+        heard = onList (jointly (ours .slots) (roomOf ours n) t) es fs .heard;
+        bytes = image ours n (onList (jointly (ours .slots) (roomOf ours n) t) es fs .frames);
+      }
+  shared-from n low high =
+      runs (afterEvent t) (jointly (ours .slots) (roomOf ours n) t) (image ours n) (Kept (ours .slots) (roomOf ours n)) (event-image n low high)
+      (event-kept (ours .slots) (roomOf ours n) (omega arith) t)
+
   -- THE HISTORY OF A SHARED BOOK: after every list of events the bytes are the image of the joint list, and what was heard is what the joint list
   -- gives.
   pub shared-history : (b : List ℕ) → start (ours .slots) ≤ length b → length b ≤ longest → (es : List Event)
@@ -57,14 +68,12 @@ module _ (t : OwnerTable) where
       }
   shared-history b low high es =
       ap (onBytes (afterEvent t) es) (sym (make-fits ours b (image ours (length b) []) low high refl .1))
-      ∙ runs (afterEvent t) (jointly (ours .slots) (roomOf ours (length b)) t) (image ours (length b)) (Kept (ours .slots) (roomOf ours (length b)))
-      (event-image (length b) low high) (event-kept (ours .slots) (roomOf ours (length b)) (omega arith) t) es []
-      (empty-kept (ours .slots) (roomOf ours (length b)))
+      ∙ shared-from (length b) low high es [] (empty-kept (ours .slots) (roomOf ours (length b)))
 
 -- ---- on two lists
 
 -- a whole-book call that is accepted does to a side's part what it does to the whole list
-module _ (t : OwnerTable) (joins : joined (t .owners) ≡ true) (room w : ℕ) (fs : List (List ℕ)) where
+module _ (t : OwnerTable) (joins : OneOwner (t .owners)) (room w : ℕ) (fs : List (List ℕ)) where
   put-shared : (f : List ℕ)
       → sharedBy t (putOn f [] room fs .answer) w (whole.Put f) (partOf t w fs) ≡ partOf t w (putOn f [] room fs .frames)
   unfolding putOn

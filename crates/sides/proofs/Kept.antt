@@ -21,7 +21,8 @@ use Rattle.sides.specs.Parts.{chosen, partOf}
 use Rattle.sides.specs.Calls.{Ask, Clear, Put, Remove, Replay, Request, barred, ifAccepted, mayCall, sideOn}
 use Rattle.sides.specs.Histories.{Event, Side, Whole, jointly}
 use Rattle.sides.proofs.Parts.{chosen-le, forms-chosen, sound-chosen}
-use Rattle.sides.proofs.Means.{ask-means, put-full, put-means, put-none, remove-means, side-barred, side-step, side-wrong}
+use Rattle.sides.proofs.Answers.{side-barred, side-step, side-wrong}
+use Rattle.sides.proofs.Means.{ask-means, put-full, put-means, put-none, remove-means}
 
 module _ (m room : ℕ) (big : settings ≤ m) (t : OwnerTable) (fs : List (List ℕ)) (K : Kept m room fs) (w : ℕ) (o : List ℕ) where
   -- the list that a turn leaves is one that the book can hold

@@ -1,3 +1,7 @@
+pub mod Examples
+pub mod Answered
+pub mod Reading
+pub mod Answers
 pub mod Parts
 pub mod Views
 pub mod Quotas
@@ -11,5 +15,4 @@ pub mod Outcome
 pub mod Kept
 pub mod History
 pub mod Apart
-pub mod Answers
-pub mod Examples
+pub mod Fresh

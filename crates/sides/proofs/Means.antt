@@ -9,63 +9,31 @@ use native.Mathlib.Omega.{arith}
 use borrow.Author.Tests.{eqb-true, le-leb, le-ltb, lt-leb, lt-ltb, ltb-false, ne-eqb}
 use lib.Dec.{T, eqb, leb, ltb}
 use lib.ListN.{drop, length}
-use Rattle.refusal.specs.declared.Refusal.the-variants.{NoRoom, NotAKind, NotHeld, OtherSide, OutputShort, OwnersWrong}
+use Rattle.refusal.specs.declared.Refusal.the-variants.{NoRoom, NotAKind, NotHeld, OutputShort}
 use Rattle.table.specs.Table.{action, kinds, settings}
 use Rattle.table.proofs.Below.{below, below-at}
 use Rattle.settings.specs.Settings.{slotFor, slotOf}
 use Rattle.contents.specs.Frames.{flat, held}
 use Rattle.contents.proofs.Shape.{Sound, Within}
 use Rattle.contents.proofs.Offsets.{within-held}
-use Rattle.owners.specs.Owners.{OwnerTable, isSide, owns, quotaOf, tableRight}
-use Rattle.owners.proofs.Laws.{table-right}
-use Rattle.settings.proofs.Settings.{both}
+use Rattle.owners.specs.Owners.{OwnerTable, owns, quotaOf}
 use Rattle.book.specs.declared.Answer.the-variants.{Done}
 use Rattle.book.specs.Plain.{Turn, askOn, become, frameOf, placed, putOn, refuse, removeOn, tell, without}
 use Rattle.book.proofs.Placed.{placed-sound}
 use Rattle.sides.specs.Parts.{chosen, partOf, restOf, withinQuotas}
-use Rattle.sides.specs.Calls.{Ask, Put, Remove, Request, amid, barred, edited, foreign, mayCall, ownTurn, sideOn, stepOf}
+use Rattle.sides.specs.Calls.{Ask, Put, Remove, amid, barred, foreign, mayCall, sideOn}
 use Rattle.sides.specs.Means.{emptied}
 use Rattle.sides.proofs.Parts.{chosen-absent, chosen-same, frame-chosen, held-chosen, sound-chosen}
 use Rattle.sides.proofs.Views.{own-slot, quotas-fit}
-use Rattle.sides.proofs.Quotas.{side-within}
-
--- ---- a side that may call
-
-pub record May (m : ℕ) (t : OwnerTable) (w room : ℕ) (fs : List (List ℕ)) : Type 0 where
-  pub right : tableRight m room t ≡ true
-  pub side : isSide w ≡ true
-  pub within : withinQuotas t (partOf t 1 fs) (partOf t 2 fs) ≡ true
-
-pub may-call : (m : ℕ) (t : OwnerTable) (w room : ℕ) (fs : List (List ℕ)) → mayCall m t w room (partOf t 1 fs) (partOf t 2 fs) ≡ true → May m t w room fs
-unfolding mayCall
-may-call m t w room fs e =
-    let a = both (tableRight m room t) (isSide w && withinQuotas t (partOf t 1 fs) (partOf t 2 fs)) e in
-    let b = both (isSide w) (withinQuotas t (partOf t 1 fs) (partOf t 2 fs)) (a .1) in
-    record { right = a .0; side = b .0; within = b .1 }
-
--- what is wrong with the table, the caller or the quotas comes before all else
-pub side-wrong : (m : ℕ) (t : OwnerTable) (w room : ℕ) (fs : List (List ℕ)) → mayCall m t w room (partOf t 1 fs) (partOf t 2 fs) ≡ false
-    → (c : Request) (o : List ℕ) → sideOn m t w c o room fs ≡ refuse OwnersWrong o fs
-unfolding sideOn
-side-wrong m t w room fs e c o = rw e
+use Rattle.sides.proofs.Quotas.{quotas-within, side-within}
+use Rattle.sides.proofs.Answers.{may-call, side-step}
 
 module _ (m : ℕ) (t : OwnerTable) (w room : ℕ) (fs : List (List ℕ)) (may : mayCall m t w room (partOf t 1 fs) (partOf t 2 fs) ≡ true) where
-  -- where 17 is ruled out, 18 is next
-  pub side-barred : (c : Request) (o : List ℕ) → barred t w c ≡ true → sideOn m t w c o room fs ≡ refuse OtherSide o fs
-  unfolding sideOn ownTurn
-  side-barred c o u = rw (may, u)
-
-  -- and then the step of the side's own list
-  pub side-step : (c : Request) (o : List ℕ) → barred t w c ≡ false
-      → sideOn m t w c o room fs ≡ amid (stepOf c o (quotaOf t w) (partOf t w fs)) (edited t w c fs) fs
-  unfolding sideOn ownTurn
-  side-step c o u = rw (may, u)
-
   -- ---- remove, ask
 
   pub remove-means : (k : ℕ) (o : List ℕ) → barred t w (Remove k) ≡ false → sideOn m t w (Remove k) o room fs ≡ removeOn k o room fs
   unfolding removeOn barred
-  remove-means k o u = side-step (Remove k) o u ∙ go (ltb (slotFor k) settings) refl
+  remove-means k o u = side-step m t w room fs may (Remove k) o u ∙ go (ltb (slotFor k) settings) refl
     where
       by : (y : Bool)
           → amid (cond y (become o (without (slotFor k) (partOf t w fs))) (refuse NotHeld o (partOf t w fs))) (without (slotFor k) fs) fs
@@ -92,7 +60,7 @@ module _ (m : ℕ) (t : OwnerTable) (w room : ℕ) (fs : List (List ℕ)) (may :
 
   pub ask-means : Within m fs → (k : ℕ) (o : List ℕ) → barred t w (Ask k) ≡ false → sideOn m t w (Ask k) o room fs ≡ askOn k o room fs
   unfolding askOn barred
-  ask-means W k o u = side-step (Ask k) o u ∙ go (ltb (slotFor k) settings) refl
+  ask-means W k o u = side-step m t w room fs may (Ask k) o u ∙ go (ltb (slotFor k) settings) refl
     where
       by : (y : Bool)
           → amid (cond y (tell (frameOf (slotFor k) fs) o (partOf t w fs)) (refuse NotHeld o (partOf t w fs))) fs fs
@@ -116,8 +84,8 @@ module _ (m : ℕ) (t : OwnerTable) (w room : ℕ) (fs : List (List ℕ)) (may :
               let own : owns (t .owners) w (slotFor k) ≡ true = own-slot t w (slotFor k) v e in
               rw (held-chosen (owns (t .owners) w) (slotFor k) own fs, frame-chosen (owns (t .owners) w) (slotFor k) own fs) (by (held (slotFor k) fs))
           entry false q v =
-              let M = may-call m t w room fs may in
-              let n = table-right m room t (M .right) .entries in
+              let M = may-call m t w room (partOf t 1 fs) (partOf t 2 fs) may in
+              let n = M .right .entries in
               let h : held (slotFor k) fs ≡ false = within-held m fs W (slotFor k) (omega (arith, ltb-false (slotFor k) (length (t .owners)) q)) in
               rw (chosen-absent (owns (t .owners) w) (slotFor k) fs h, h)
       go false e = refl
@@ -127,29 +95,30 @@ module _ (m : ℕ) (t : OwnerTable) (w room : ℕ) (fs : List (List ℕ)) (may :
   -- what is no setting's frame is refused as the book refuses it
   pub put-none : (f o : List ℕ) → settings ≤ slotOf f → barred t w (Put f) ≡ false → sideOn m t w (Put f) o room fs ≡ putOn f o room fs
   unfolding putOn
-  put-none f o a u = side-step (Put f) o u ∙ rw (le-ltb (slotOf f) settings a)
+  put-none f o a u = side-step m t w room fs may (Put f) o u ∙ rw (le-ltb (slotOf f) settings a)
 
   pub put-full : (f o : List ℕ) → slotOf f < settings → barred t w (Put f) ≡ false → quotaOf t w < length (flat (placed f (partOf t w fs)))
       → sideOn m t w (Put f) o room fs ≡ refuse NoRoom o fs
   unfolding putOn
   put-full f o a u h =
-      side-step (Put f) o u ∙ rw (lt-ltb (slotOf f) settings a, lt-leb (length (flat (placed f (partOf t w fs)))) (quotaOf t w) h)
+      side-step m t w room fs may (Put f) o u ∙ rw (lt-ltb (slotOf f) settings a, lt-leb (length (flat (placed f (partOf t w fs)))) (quotaOf t w) h)
 
   side-placed : (f o : List ℕ) → slotOf f < settings → barred t w (Put f) ≡ false → length (flat (placed f (partOf t w fs))) ≤ quotaOf t w
       → sideOn m t w (Put f) o room fs ≡ become o (placed f fs)
   unfolding putOn
   side-placed f o a u h =
-      side-step (Put f) o u ∙ rw (lt-ltb (slotOf f) settings a, le-leb (length (flat (placed f (partOf t w fs)))) (quotaOf t w) h)
+      side-step m t w room fs may (Put f) o u ∙ rw (lt-ltb (slotOf f) settings a, le-leb (length (flat (placed f (partOf t w fs)))) (quotaOf t w) h)
 
   -- a frame that fits the quota is put by the book's own put, in the book's room
   pub put-means : settings ≤ m → Sound fs → (f o : List ℕ) → slotOf f < settings → barred t w (Put f) ≡ false
       → length (flat (placed f (partOf t w fs))) ≤ quotaOf t w → sideOn m t w (Put f) o room fs ≡ putOn f o room fs
   unfolding putOn
   put-means big S f o a u h =
-      let M = may-call m t w room fs may in
+      let M = may-call m t w room (partOf t 1 fs) (partOf t 2 fs) may in
       let e : sideOn m t w (Put f) o room fs ≡ become o (placed f fs) = side-placed f o a u h in
+      let was = quotas-within t (partOf t 1 fs) (partOf t 2 fs) (M .first) (M .second) in
       let q : withinQuotas t (partOf t 1 (placed f fs)) (partOf t 2 (placed f fs)) ≡ true =
-      subst (λ (x : Turn). withinQuotas t (partOf t 1 (x .frames)) (partOf t 2 (x .frames)) ≡ true) e (side-within m room t fs (M .within) w (Put f) o) in
+      subst (λ (x : Turn). withinQuotas t (partOf t 1 (x .frames)) (partOf t 2 (x .frames)) ≡ true) e (side-within m room t fs was w (Put f) o) in
       e
       ∙ sym (rw (
         lt-ltb (slotOf f) settings a,

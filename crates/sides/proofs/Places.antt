@@ -1,5 +1,5 @@
--- What holds of each refusal that a side's call can give holds of its answer (`side-says`); so the place that it carries is at most 12
--- (`side-place`). And no call of the whole book is refused by 17 or 18 (`whole-own`).
+-- What holds of each refusal that a side's call can give holds of its answer (`side-says`), and so of every event's (`event-says`); so the place that
+-- it carries is at most 12 (`side-place`). And no call of the whole book is refused by 17 or 18 (`whole-own`).
 -- Assumes nothing.
 use mathlib.Core.Path.{subst, _≡_}
 use mathlib.Core.Bool.{Bool, cond, false, true}
@@ -7,28 +7,22 @@ use mathlib.Core.List.{List}
 use Prim.Native.Nat.{ℕ, _≤_}
 use native.Mathlib.Omega.{arith}
 use Rattle.refusal.specs.declared.Refusal.{Refusal}
-use Rattle.refusal.specs.declared.Refusal.the-variants.{OtherSide, OwnersWrong}
+use Rattle.refusal.specs.declared.Refusal.the-variants.{BufferSize, OtherSide, OwnersWrong}
 use Rattle.refusal.specs.Numbers.{numberOf, placeOf}
+use Rattle.contents.specs.Contents.{refused}
 use Rattle.contents.proofs.Places.{judge-own}
 use Rattle.owners.specs.Owners.{OwnerTable, quotaOf}
 use Rattle.book.specs.declared.Answer.the-variants.{Refused}
 use Rattle.book.specs.Plain.{refuse}
-use Rattle.book.specs.Book.{layoutIn}
+use Rattle.book.specs.Book.{Use, layoutIn, openedFor}
 use Rattle.book.specs.History.{Call, after}
-use Rattle.codec.proofs.Places.{decode-own}
-use Rattle.book.proofs.Places.{Near, Says, Steps, after-says, ask-says, call-says, clear-says, openedFor-near}
-use Rattle.book.proofs.Places.{openedFor-says, put-says, remove-says, replay-says, steps-near}
+use Rattle.book.proofs.Places.{Near, Says, Steps, after-says, call-says, openedFor-near, openedFor-says, steps-near}
 use Rattle.sides.specs.Parts.{partOf}
-use Rattle.sides.specs.Calls.{Ask, Clear, Put, Remove, Replay, Request, amid, barred, edited, mayCall, ownTurn, sideCall, sideOn, stepOf, wantsOf}
+use Rattle.sides.specs.Calls.{Request, amid, barred, edited, mayCall, ownTurn, sideCall, sideOn, stepOf, wantsOf}
+use Rattle.sides.specs.Histories.{Event, Side, Whole, afterEvent, by}
+use Rattle.sides.proofs.Answers.{step-says, steps-low}
 
 module _ (P : Refusal → Type 0) (S : Steps P) where
-  pub step-says : (c : Request) (o : List ℕ) (room : ℕ) (gs : List (List ℕ)) → Says P (stepOf c o room gs .answer)
-  step-says (Put f) o room gs = put-says P S f o room gs
-  step-says (Remove k) o room gs = remove-says P S k o room gs
-  step-says (Ask k) o room gs = ask-says P S k o room gs
-  step-says Clear o room gs = clear-says P S o room gs
-  step-says Replay o room gs = replay-says P S o room gs
-
   module _ (wrong : P OwnersWrong) (foreign : P OtherSide) where
     pub side-says : (m : ℕ) (t : OwnerTable) (w : ℕ) (c : Request) (o : List ℕ) (room : ℕ) (fs : List (List ℕ)) → Says P (sideOn m t w c o room fs .answer)
     unfolding sideOn ownTurn
@@ -38,21 +32,21 @@ module _ (P : Refusal → Type 0) (S : Steps P) where
             → Says P (cond y (amid (cond u (refuse OtherSide o (partOf t w fs)) (stepOf c o (quotaOf t w) (partOf t w fs))) (edited t w c fs) fs)
             (refuse OwnersWrong o fs) .answer)
         go true true = foreign
-        go true false = step-says c o (quotaOf t w) (partOf t w fs)
+        go true false = step-says P S c o (quotaOf t w) (partOf t w fs)
         go false u = wrong
 
+    -- and so of an event's, where it holds of the book's own refusals too
+    pub event-says : (b : List ℕ) → ((u : Use) (x : Refusal) → openedFor u b ≡ refused x → P x) → P BufferSize → (t : OwnerTable) (e : Event)
+        → Says P (afterEvent t e b .answer)
+    event-says b own size t (Side c) =
+        call-says P S b own size (wantsOf (c .what)) (sideOn (layoutIn b .slots) t (c .who) (c .what)) (c .output)
+        (λ o room fs. side-says (layoutIn b .slots) t (c .who) (c .what) o room fs)
+    event-says b own size t (Whole c) = after-says P S b own size c
+
 pub side-place : (b : List ℕ) (t : OwnerTable) (w : ℕ) (c : Request) (o : List ℕ) (x : Refusal) → sideCall t w c o b .answer ≡ Refused x → placeOf x ≤ 12
-side-place b t w c o x e =
-    subst (Says Near) e
-    (call-says Near steps-near b (openedFor-near b) (omega arith) (wantsOf c) (sideOn (layoutIn b .slots) t w c) o
-    (λ o room fs. side-says Near steps-near (omega arith) (omega arith) (layoutIn b .slots) t w c o room fs))
+side-place b t w c o x e = subst (Says Near) e (event-says Near steps-near (omega arith) (omega arith) b (openedFor-near b) (omega arith) t (by w c o))
 
 -- ---- the whole book
-
--- a step of the book is refused by 13 at the most
-pub steps-low : (n : ℕ) → 13 ≤ n → Steps (λ x. numberOf x ≤ n)
-steps-low n h =
-    record { room = omega arith; held = omega arith; kind = omega arith; short = omega arith; frame = λ f x e. omega (arith, decode-own f x e) }
 
 abbrev Own : Refusal → Type 0
 Own x = numberOf x ≤ 16

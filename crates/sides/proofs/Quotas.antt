@@ -3,6 +3,7 @@
 use mathlib.Core.Path.{ap, refl, subst, sym, _≡_}
 use mathlib.Core.Bool.{Bool, cond, false, true}
 use mathlib.Core.List.{List}
+use mathlib.Core.Logic.{_⊎_, inl, inr}
 use Prim.Native.Nat.{ℕ, _≤_}
 use native.Mathlib.Omega.{arith}
 use borrow.Author.Tests.{eqb-false, eqb-true, le-leb, leb-true}
@@ -15,6 +16,7 @@ use Rattle.table.specs.Table.{settings}
 use Rattle.settings.specs.Settings.{lacks, slotFor, slotOf}
 use Rattle.contents.specs.Frames.{flat, held}
 use Rattle.owners.specs.Owners.{OwnerTable, isSide, quotaOf}
+use Rattle.owners.proofs.Laws.{side-means}
 use Rattle.settings.proofs.Settings.{both}
 use Rattle.book.specs.Plain.{Turn, askOn, become, clearOn, frameOf, placed, putOn, refuse, removeOn, replayOn, tell, without}
 use Rattle.book.proofs.Kept.{tell-frames, without-le}
@@ -26,12 +28,11 @@ use Rattle.sides.proofs.Views.{side-apart, side-own}
 
 -- a side is 1 or 2
 pub by-side : (P : ℕ → Type 0) → P 1 → P 2 → (w : ℕ) → isSide w ≡ true → P w
-unfolding isSide
-by-side P one two w e = go (eqb w 1) refl e
+by-side P one two w e = go (side-means w e)
   where
-    go : (x : Bool) → eqb w 1 ≡ x → cond x true (eqb w 2) ≡ true → P w
-    go true q h = subst P (sym (eqb-true w 1 q)) one
-    go false q h = subst P (sym (eqb-true w 2 h)) two
+    go : (w ≡ 1) ⊎ (w ≡ 2) → P w
+    go (inl q) = subst P (sym q) one
+    go (inr q) = subst P (sym q) two
 
 -- the list of a side, of both sides' parts
 pub part-side : (t : OwnerTable) (fs : List (List ℕ)) (w : ℕ) → isSide w ≡ true → cond (eqb w 1) (partOf t 1 fs) (partOf t 2 fs) ≡ partOf t w fs

@@ -16,9 +16,9 @@ use Rattle.table.specs.Table.{settings}
 use Rattle.settings.specs.Settings.{lacks, slotFor, slotOf}
 use Rattle.contents.specs.Frames.{flat, held}
 use Rattle.contents.proofs.Shape.{Sound}
-use Rattle.owners.specs.Owners.{OwnerTable, isSide, joined, owns, quotaOf, tableRight}
+use Rattle.owners.specs.Owners.{OwnerTable, isSide, owns, quotaOf, tableRight}
 use Rattle.settings.proofs.Settings.{both}
-use Rattle.owners.proofs.Laws.{owns-once, owns-other, second-owner, table-right}
+use Rattle.owners.proofs.Laws.{OneOwner, Right, owns-once, owns-other, second-owner, table-right}
 use Rattle.book.specs.declared.Answer.{Answer}
 use Rattle.book.specs.declared.Answer.the-variants.{Done, Refused}
 use Rattle.book.specs.Plain.{Turn, askOn, become, clearOn, frameOf, placed, putOn, refuse, removeOn, replayOn, tell, without}
@@ -28,12 +28,12 @@ use Rattle.sides.proofs.Parts.{chosen-all, chosen-none, chosen-placed, 
 
 -- ---- a right table's parts
 
-module _ (m room : ℕ) (t : OwnerTable) (right : tableRight m room t ≡ true) (big : settings ≤ m) (fs : List (List ℕ)) (S : Sound fs) where
+module _ (m room : ℕ) (t : OwnerTable) (R : Right m room t) (big : settings ≤ m) (fs : List (List ℕ)) (S : Sound fs) where
   -- what is not side 1's is side 2's
   rest-second : restOf t 1 fs ≡ partOf t 2 fs
   rest-second =
-      let R = table-right m room t right in
-      chosen-same (λ s. not (owns (t .owners) 1 s)) (owns (t .owners) 2) (λ s a. second-owner (t .owners) (R .sides) s (omega (arith, R .entries))) fs S
+      chosen-same (λ s. not (owns (t .owners) 1 s)) (owns (t .owners) 2)
+      (λ s a. second-owner (t .owners) s (R .sides s (omega (arith, R .entries)))) fs S
 
   -- the two sides' bytes are all the bytes
   pub flat-sides : length (flat fs) ≡ length (flat (partOf t 1 fs)) + length (flat (partOf t 2 fs))
@@ -49,7 +49,7 @@ module _ (m room : ℕ) (t : OwnerTable) (right : tableRight m room t ≡ true) 
         flat-sides,
         leb-true (length (flat (partOf t 1 fs))) (t .quota1) (b .0),
         leb-true (length (flat (partOf t 2 fs))) (t .quota2) (b .1),
-        table-right m room t right .sum,
+        R .sum,
       )
 
 -- ---- a side's own part
@@ -77,7 +77,7 @@ module _ (t : OwnerTable) (w : ℕ) where
   ask-nobody k h = rw (le-ltb (slotFor k) (length (t .owners)) h)
 
   -- the edit of all frames, seen by the side, is that of its own list
-  module _ (whole : joined (t .owners) ≡ true) (o : List ℕ) (fs : List (List ℕ)) where
+  module _ (whole : OneOwner (t .owners)) (o : List ℕ) (fs : List (List ℕ)) where
     put-leaves : (f : List ℕ) → foreign t w (slotOf f) ≡ false
         → putOn f o (quotaOf t w) (partOf t w fs) .frames ≡ ifAccepted (putOn f o (quotaOf t w) (partOf t w fs) .answer) (partOf t w (placed f fs))
         (partOf t w fs)
@@ -166,7 +166,7 @@ module _ (t : OwnerTable) (w v : ℕ) (apart : v ≡ w → ⊥) where
   foreign-out s h e = owns-once (t .owners) v w apart s (own-slot t v s h e)
 
   -- what is put or removed is a setting's, where it is accepted
-  module _ (whole : joined (t .owners) ≡ true) (o : List ℕ) (gs fs : List (List ℕ)) (room : ℕ) where
+  module _ (whole : OneOwner (t .owners)) (o : List ℕ) (gs fs : List (List ℕ)) (room : ℕ) where
     step-apart : (c : Request) → barred t v c ≡ false → partOf t w (ifAccepted (stepOf c o room gs .answer) (edited t v c fs) fs) ≡ partOf t w fs
     unfolding putOn removeOn barred
     step-apart (Put f) h = go (ltb (slotOf f) settings) refl (leb (length (flat (placed f gs))) room)
