@@ -1,11 +1,9 @@
 -- A record's effect on the numbers, one law for each way through the code.
 -- Assumes nothing.
 use mathlib.Core.Path.{_≡_, refl, sym, ap, _∙_}
-use mathlib.Core.Bool.{Bool, true, false, not}
 use mathlib.Core.List.{List}
 use Prim.Native.Nat.{ℕ, _+_, _<_, _≤_}
 use native.Mathlib.Omega.{arith}
-use lib.Dec.{ltb}
 use borrow.Author.Tests.{eq-eqb, ne-eqb, le-leb, lt-leb, lt-ltb, le-ltb}
 use Rattle.table.specs.Table.{settings}
 use Rattle.settings.specs.Settings.{slotFor}
@@ -26,9 +24,10 @@ use Rattle.book.specs.declared.Answer.the-variants as said
 use Rattle.book.specs.Book.{Permits}
 use Rattle.book.specs.History.{Put, after}
 use Rattle.day.specs.declared.Day.{Day}
-use Rattle.day.specs.Days.{most, plus, kindIn, isAction, noted, refusedOne, tallied, missed, onReceived}
+use Rattle.day.specs.Days.{most, plus, noted, refusedOne, tallied, missed, onReceived}
 use Rattle.day.specs.Days.{heardLoraRxStats, heardLoraPacketStatus, heardFskRxStats, heardFskPacketStatus}
 use Rattle.day.specs.Steps.{sentDay, sentBytes}
+use Rattle.day.proofs.Commands.{PutAs, action-sent, setting-sent, stray-sent}
 
 -- ---- counts
 
@@ -78,54 +77,37 @@ module _ (k : ℕ) (d : Day) (a : Said) (x : Refusal) (e : a ≡ said.Refused x)
 
 -- ---- commands
 
--- what the decoder's answer says of a command
-kindTold : Answer → ℕ
-kindTold (Kind k) = k
-kindTold (Refused x) = 0
+-- what a command decodes to, by the decoder's answer
+kind-read : (r : Reading) (k : ℕ) → decoded r .answer ≡ Kind k → (vs : List ℕ) × (r ≡ reading k vs)
+unfolding decoded
+kind-read (reading j vs) k e = let s : j ≡ k = cc in (vs, ap (λ (i : ℕ). reading i vs) s)
+kind-read (refuses x) k e = absurd (let z : _≡_ {A = ℕ} 0 1 = cc in omega arith)
 
-actionTold : Answer → Bool
-actionTold (Kind k) = not (ltb (slotFor k) settings)
-actionTold (Refused x) = false
-
-kind-told : (r : Reading) → kindTold (decoded r .answer) ≡ kindIn r
-unfolding decoded kindTold
-kind-told (reading k vs) = refl
-kind-told (refuses x) = refl
-
-action-told : (r : Reading) → actionTold (decoded r .answer) ≡ isAction r
-unfolding decoded actionTold
-action-told (reading k vs) = refl
-action-told (refuses x) = refl
+refusal-read : (r : Reading) (x : Refusal) → decoded r .answer ≡ Refused x → r ≡ refuses x
+unfolding decoded
+refusal-read (reading j vs) x e = absurd (let z : _≡_ {A = ℕ} 0 1 = cc in omega arith)
+refusal-read (refuses y) x e = let s : y ≡ x = cc in ap refuses s
 
 module _ (f b : List ℕ) (d : Day) (q : Decoded) (e : q ≡ decoded (decode f)) where
-  kind-is : kindTold (q .answer) ≡ kindIn (decode f)
-  kind-is = ap (λ (x : Decoded). kindTold (x .answer)) e ∙ kind-told (decode f)
-
-  action-is : actionTold (q .answer) ≡ isAction (decode f)
-  action-is = ap (λ (x : Decoded). actionTold (x .answer)) e ∙ action-told (decode f)
+  told : {a : Answer} → q .answer ≡ a → decoded (decode f) .answer ≡ a
+  told h = ap (λ (x : Decoded). x .answer) (sym e) ∙ h
 
   -- the two clauses of a command's contract
   abbrev pub Sent : Day → List ℕ → Type 0
   Sent r x = (r ≡ sentDay f b d) × (x ≡ sentBytes f b)
 
-  module _ (r : Day) (x : List ℕ) (k : ℕ) where
-    put-sent : (a : Said) → actionTold (q .answer) ≡ false → kindTold (q .answer) ≡ k → r ≡ tallied k a d → Permits (after (Put f) b) a x
-        → Sent r x
-    unfolding sentDay sentBytes
-    put-sent a t h g p = rw (g, p .0, p .1, sym action-is ∙ t, sym kind-is ∙ h) (refl, refl)
+  module _ (r : Day) (x : List ℕ) where
+    put-sent : (k : ℕ) (a : Said) → PutAs f b d k → r ≡ tallied k a d → Permits (after (Put f) b) a x → Sent r x
+    put-sent k a s g p = (g ∙ ap (λ (y : Said). tallied k y d) (p .0) ∙ sym (s .0), p .1 ∙ sym (s .1))
 
-    pub sent-setting : (a : Said) → q .answer ≡ Kind k → slotFor k < settings → r ≡ tallied k a d → Permits (after (Put f) b) a x → Sent r x
-    unfolding kindTold actionTold
-    sent-setting a h l = put-sent a (ap actionTold h ∙ ap not (lt-ltb (slotFor k) settings l)) (ap kindTold h)
+    pub sent-setting : (k : ℕ) (a : Said) → q .answer ≡ Kind k → slotFor k < settings → r ≡ tallied k a d → Permits (after (Put f) b) a x → Sent r x
+    sent-setting k a h l = let z = kind-read (decode f) k (told h) in put-sent k a (setting-sent f b d k (z .0) (z .1) l)
 
-    pub sent-action : q .answer ≡ Kind k → settings ≤ slotFor k → r ≡ noted k d → x ≡ b → Sent r x
-    unfolding kindTold actionTold sentDay sentBytes
-    sent-action h l g p =
-        let t : isAction (decode f) ≡ true = sym action-is ∙ ap actionTold h ∙ ap not (le-ltb (slotFor k) settings l) in
-        let s : kindIn (decode f) ≡ k = sym kind-is ∙ ap kindTold h in
-        rw (g, p, t, s) (refl, refl)
+    pub sent-action : (k : ℕ) → q .answer ≡ Kind k → settings ≤ slotFor k → r ≡ noted k d → x ≡ b → Sent r x
+    sent-action k h l g p =
+        let z = kind-read (decode f) k (told h) in
+        let s = action-sent f b d k (z .0) (z .1) l in
+        (g ∙ sym (s .0), p ∙ sym (s .1))
 
-  pub sent-refused : (r : Day) (x : List ℕ) (a : Said) (w : Refusal) → q .answer ≡ Refused w → r ≡ tallied 0 a d
-      → Permits (after (Put f) b) a x → Sent r x
-  unfolding kindTold actionTold
-  sent-refused r x a w h = put-sent r x 0 a (ap actionTold h) (ap kindTold h)
+    pub sent-refused : (a : Said) (w : Refusal) → q .answer ≡ Refused w → r ≡ tallied 0 a d → Permits (after (Put f) b) a x → Sent r x
+    sent-refused a w h = put-sent 0 a (stray-sent f b d w (refusal-read (decode f) w (told h)))

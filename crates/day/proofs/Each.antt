@@ -1,12 +1,13 @@
 -- The refusals of a day by each number, and the last reading of each request, said of the records.
 --     counts-refused         the count of a number is how many puts the list refuses by it
 --     refused-none           0, 6 and 7 refuse no put
---     last-lora-rx-stats and its like      the reading of the last answer that the request's length fits; none where there is no such answer
+--     last-lora-rx-stats and its like      the reading of the last answer that the request's length fits
+--     never-lora-rx-stats and its like     none exactly if there is no such answer
 -- Assumes nothing.
 use mathlib.Core.Path.{_≡_, refl, sym, ap, ap₂, _∙_}
 use mathlib.Core.Bool.{Bool, true, false, cond}
 use mathlib.Core.List.{List, [], _∷_}
-use mathlib.Core.Logic.{inl, inr}
+use mathlib.Core.Logic.{inl, inr, _↔_}
 use Prim.Native.Nat.{ℕ, suc, _+_, _≤_, _<_}
 use native.Mathlib.Omega.{arith}
 use lib.Dec.{eqb, ltb}
@@ -29,20 +30,12 @@ use Rattle.day.specs.declared.LastFskPacketStatus.the-variants as lastFs
 use Rattle.day.specs.Days.{acceptedOne, bumped, fresh, isAction, kindIn, missed, most, noted, onReceived, plus, refusedOne, tallied}
 use Rattle.day.specs.Steps.{Record, State, dayOn, morning, onSent, received, sent, step}
 use Rattle.day.specs.Tally.{accepts, answersTo, newest, refusedFrom, refusesBy}
+use Rattle.day.proofs.Commands.{latest-tallied}
 use Rattle.day.proofs.Days.{plus-fits, tally-counted}
 use Rattle.day.proofs.Answers.{answered, reads-of}
 use Rattle.day.proofs.Counts.{Putting, Roomy, fresh-roomy, one-of-sum, put-number, putting-small, received-is, sent-frames, sent-is}
 
 -- ---- the latest command
-
-latest-tallied : (k : ℕ) (a : Answer) (d : Day) → tallied k a d .latest ≡ k
-unfolding acceptedOne refusedOne noted
-latest-tallied k (Done n) d = refl
-latest-tallied k (Refused x) d = go (ltb (numberOf x) 9)
-  where
-    go : (t : Bool) → cond t (refusedOne (numberOf x) (noted k d)) (noted k d) .latest ≡ k
-    go true = refl
-    go false = refl
 
 latest-sent : (room : ℕ) (f : List ℕ) (s : State) → onSent room f s .day .latest ≡ kindIn (decode f)
 unfolding onSent noted
@@ -116,6 +109,16 @@ module _ {X : Type 0} (get : Day → X) (read : List ℕ → X) (k m : ℕ) (R :
       go true = refl
       go false = refl
 
+-- no reading is the last one exactly if there was no such answer, where a reading is never what was there before
+newest-none : {X : Type 0} (read : List ℕ → X) (x : X) → ((b : List ℕ) → read b ≡ x → ⊥) → (bs : List (List ℕ)) → (newest read x bs ≡ x) ↔ (bs ≡ [])
+unfolding newest
+newest-none read x apart [] = ((λ e. refl), λ e. refl)
+newest-none read x apart (b ∷ bs) = ((λ e. absurd (newest-some bs b e)), λ e. absurd (let z : _≡_ {A = ℕ} (suc (length bs)) 0 = ap length e in omega arith))
+  where
+    newest-some : (cs : List (List ℕ)) (c : List ℕ) → newest read (read c) cs ≡ x → ⊥
+    newest-some [] c e = apart c e
+    newest-some (a ∷ cs) c e = newest-some cs a e
+
 -- ---- of the four requests
 
 module _ (room : ℕ) (rs : List Record) where
@@ -170,6 +173,32 @@ module _ (room : ℕ) (rs : List Record) where
         reads = λ b d. reads-of b d (λ e. e .«fsk_packet_status») (lastFskPacketStatus.Last (fskPacketStatusRsp b)) 23 8 refl refl refl refl refl refl;
       })
       room rs morning
+
+  -- ---- and where there is none
+
+  pub never-lora-rx-stats : (dayOn room rs morning .day .«lora_rx_stats» ≡ lastLoraRxStats.Never) ↔ (answersTo 9 12 0 rs ≡ [])
+  never-lora-rx-stats =
+      rw last-lora-rx-stats
+      (newest-none (λ b. lastLoraRxStats.Last (loraRxStatsRsp b)) lastLoraRxStats.Never (λ b e. let z : _≡_ {A = ℕ} 0 1 = cc in omega arith)
+      (answersTo 9 12 0 rs))
+
+  pub never-lora-packet-status : (dayOn room rs morning .day .«lora_packet_status» ≡ lastLoraPacketStatus.Never) ↔ (answersTo 10 8 0 rs ≡ [])
+  never-lora-packet-status =
+      rw last-lora-packet-status
+      (newest-none (λ b. lastLoraPacketStatus.Last (loraPacketStatusRsp b)) lastLoraPacketStatus.Never (λ b e. let z : _≡_ {A = ℕ} 0 1 = cc in omega arith)
+      (answersTo 10 8 0 rs))
+
+  pub never-fsk-rx-stats : (dayOn room rs morning .day .«fsk_rx_stats» ≡ lastFskRxStats.Never) ↔ (answersTo 22 16 0 rs ≡ [])
+  never-fsk-rx-stats =
+      rw last-fsk-rx-stats
+      (newest-none (λ b. lastFskRxStats.Last (fskRxStatsRsp b)) lastFskRxStats.Never (λ b e. let z : _≡_ {A = ℕ} 0 1 = cc in omega arith)
+      (answersTo 22 16 0 rs))
+
+  pub never-fsk-packet-status : (dayOn room rs morning .day .«fsk_packet_status» ≡ lastFskPacketStatus.Never) ↔ (answersTo 23 8 0 rs ≡ [])
+  never-fsk-packet-status =
+      rw last-fsk-packet-status
+      (newest-none (λ b. lastFskPacketStatus.Last (fskPacketStatusRsp b)) lastFskPacketStatus.Never (λ b e. let z : _≡_ {A = ℕ} 0 1 = cc in omega arith)
+      (answersTo 23 8 0 rs))
 
 -- ---- refusals by each number
 

@@ -1,4 +1,6 @@
 -- Records and their bytes: what bytes have of them, whatever stands behind.
+--     fits-true, true-fits               a record stands in front exactly if its direction is 0 or 1 and its bytes are all there
+--     record-sent, record-received       0 is a command that was sent, 1 an answer that was received
 --     records-bytes      the bytes of records are read as these records, and then what follows
 --     records-hold       records that were found have the bytes that they were found in, and a fault is where no whole record stands
 --     records-take       a smaller number finds the first of the same records, and `records-free` no fault
@@ -39,6 +41,15 @@ true-fits s f = rw (le-leb (getD s 0 0) 1 (f .known), le-leb (sizeAt s) (length 
 pub unknown-fits : (s : List ℕ) → 1 < getD s 0 0 → fits s ≡ false
 unfolding fits
 unknown-fits s h = rw (lt-leb (getD s 0 0) 1 h) refl
+
+module _ (s : List ℕ) where
+  pub record-sent : getD s 0 0 ≡ 0 → recordAt s ≡ sent (take (getD s 1 0) (drop 2 s))
+  unfolding recordAt
+  record-sent e = rw e refl
+
+  pub record-received : getD s 0 0 ≡ 1 → recordAt s ≡ received (take (getD s 1 0) (drop 2 s))
+  unfolding recordAt
+  record-received e = rw e refl
 
 -- what follows a whole record does not alter it
 module _ (p q : List ℕ) (f : Fits p) where

@@ -5,23 +5,26 @@
 --     play-between           nor is what stands between the header and the first record
 --     play-stopped           on 15 book, counts and readings are those of the records before the fault
 --     play-headless          a fault of the header leaves a fresh book
---     play-eleven            where no book can be made it is 11, whatever the trace, and nothing is altered
+--     play-eleven            where no book can be made it is 11, whatever the trace, and nothing is altered; and nowhere else (`play-size`)
+--     fault-play, play-fault      else it is 15 with the place p exactly if the trace is at fault there,
+--     done-play, play-done        and done exactly if it is nowhere at fault
 --     play-keeps             and no other refusal but 11 and 15 is given
 --     play-book              the final book is the book that the accepted frames give when put in order into a fresh one
 --     play-sent, play-accepted, play-refused, play-skipped, play-records       what the counts are, said of the records alone
 --     play-lora-rx-stats and its like             the last readings, said of the records alone
+--     play-never             there is none exactly if there is no answer to that request that has its length
 -- That parts cut anywhere give the same is in proofs/Parts.antt.
 -- Assumes nothing.
 use mathlib.Core.Path.{_≡_, refl, sym, ap, _∙_}
 use mathlib.Core.Bool.{Bool, true, false, cond}
 use mathlib.Core.List.{List, [], _∷_, _++_}
-use mathlib.Core.Logic.{_⊎_, inl, inr}
+use mathlib.Core.Logic.{_↔_, _⊎_, inl, inr}
 use mathlib.Core.Option.{Option, none, some}
 use Prim.Native.Nat.{ℕ, _+_, _≤_, _<_}
 use native.Mathlib.Omega.{arith}
 use lib.Dec.{leb, ltb}
 use lib.ListN.{length, take, drop, getD}
-use borrow.Author.Tests.{le-leb, leb-true}
+use borrow.Author.Tests.{le-leb, leb-false, leb-true}
 use Rattle.refusal.specs.declared.Refusal.{Refusal}
 use Rattle.refusal.specs.declared.Refusal.the-variants.{BufferSize, TraceFault}
 use Rattle.cmd_lora.specs.Responses.{loraPacketStatusRsp, loraRxStatsRsp}
@@ -40,10 +43,11 @@ use Rattle.day.specs.declared.LastLoraPacketStatus.the-variants as lastLoraPack
 use Rattle.day.specs.declared.LastFskRxStats.the-variants as lastFskRxStats
 use Rattle.day.specs.declared.LastFskPacketStatus.the-variants as lastFskPacketStatus
 use Rattle.day.specs.Days.{fresh, most}
-use Rattle.day.specs.Steps.{State, dayOn, morning}
+use Rattle.day.specs.Steps.{Record, State, dayOn, morning}
 use Rattle.day.specs.Tally.{acceptedFrom, answersTo, newest, puts, puttable, refusedFrom, sum, unread}
 use Rattle.day.proofs.Counts.{counts-accepted, counts-records, counts-sent, counts-skipped, day-book}
 use Rattle.day.proofs.Each.{counts-refused, last-fsk-packet-status, last-fsk-rx-stats, last-lora-packet-status, last-lora-rx-stats}
+use Rattle.day.proofs.Each.{never-fsk-packet-status, never-fsk-rx-stats, never-lora-packet-status, never-lora-rx-stats}
 use Rattle.playback.specs.Trace.{Found, countIn, endOf, firstIn, headed, recordsFrom, recounted, stoppedAt, traced}
 use Rattle.playback.specs.Plays.{Outcome, Run, answerOf, handed, onMade, plays, runIn, runOn}
 use Rattle.playback.proofs.Found.{records-most}
@@ -96,6 +100,41 @@ module _ (b : List ℕ) (low : start (ours .slots) ≤ length b) (high : length 
   pub play-run : (t : List ℕ) → plays t b ≡ shown (length b) (runIn room t)
   unfolding plays made
   play-run t = rw (le-leb (start (ours .slots)) (length b) low, le-leb (length b) longest high) refl
+
+  -- ---- the answer
+
+  module _ (t : List ℕ) where
+    play-answer : plays t b .played .answer ≡ answerOf (traced t .stop)
+    unfolding runIn
+    play-answer = ap (λ (o : Outcome). o .played .answer) (play-run t)
+
+    pub fault-play : (p : ℕ) → traced t .stop ≡ some p → plays t b .played .answer ≡ Refused (TraceFault p)
+    fault-play p e = play-answer ∙ ap answerOf e
+
+    pub play-fault : (p : ℕ) → plays t b .played .answer ≡ Refused (TraceFault p) → traced t .stop ≡ some p
+    play-fault p e = at (traced t .stop) (sym play-answer ∙ e)
+      where
+        at : (o : Option ℕ) → answerOf o ≡ Refused (TraceFault p) → o ≡ some p
+        at none q = absurd (done-refused 0 (TraceFault p) q)
+        at (some n) q = let z : n ≡ p = cc in ap some z
+
+    pub done-play : traced t .stop ≡ none → plays t b .played .answer ≡ Done 0
+    done-play e = play-answer ∙ ap answerOf e
+
+    pub play-done : plays t b .played .answer ≡ Done 0 → traced t .stop ≡ none
+    play-done e = nowhere (traced t .stop) (sym play-answer ∙ e)
+      where
+        nowhere : (o : Option ℕ) → answerOf o ≡ Done 0 → o ≡ none
+        nowhere none q = refl
+        nowhere (some n) q = absurd (done-refused 0 _ (sym q))
+
+    -- 11 is not given here
+    play-sized : plays t b .played .answer ≡ Refused BufferSize → ⊥
+    play-sized e = by (traced t .stop) (sym play-answer ∙ e)
+      where
+        by : (o : Option ℕ) → answerOf o ≡ Refused BufferSize → ⊥
+        by none q = done-refused 0 BufferSize q
+        by (some n) q = let z : _≡_ {A = ℕ} 0 1 = cc in omega arith
 
   -- ---- prefixes
 
@@ -180,7 +219,31 @@ module _ (b : List ℕ) (low : start (ours .slots) ≤ length b) (high : length 
         ≡ newest (λ x. lastFskPacketStatus.Last (fskPacketStatusRsp x)) lastFskPacketStatus.Never (answersTo 23 8 0 (traced t .records))
     play-fsk-packet-status = of-day t (λ d. d .«fsk_packet_status») ∙ last-fsk-packet-status room (traced t .records)
 
+    -- none exactly if there is no such answer
+    abbrev rs : List Record
+    rs = traced t .records
+
+    pub play-never :
+        ((plays t b .played .day .«lora_rx_stats» ≡ lastLoraRxStats.Never) ↔ (answersTo 9 12 0 rs ≡ []))
+        × ((plays t b .played .day .«lora_packet_status» ≡ lastLoraPacketStatus.Never) ↔ (answersTo 10 8 0 rs ≡ []))
+        × ((plays t b .played .day .«fsk_rx_stats» ≡ lastFskRxStats.Never) ↔ (answersTo 22 16 0 rs ≡ []))
+        × ((plays t b .played .day .«fsk_packet_status» ≡ lastFskPacketStatus.Never) ↔ (answersTo 23 8 0 rs ≡ []))
+    play-never = (
+      rw (of-day t (λ d. d .«lora_rx_stats»)) (never-lora-rx-stats room rs),
+      rw (of-day t (λ d. d .«lora_packet_status»)) (never-lora-packet-status room rs),
+      rw (of-day t (λ d. d .«fsk_rx_stats»)) (never-fsk-rx-stats room rs),
+      rw (of-day t (λ d. d .«fsk_packet_status»)) (never-fsk-packet-status room rs),
+    )
+
 -- ---- refusals, whatever the buffer
+
+pub play-size : (t b : List ℕ) → (plays t b .played .answer ≡ Refused BufferSize) ↔ (start (ours .slots) ≤ length b → longest < length b)
+play-size t b =
+    ((λ e low. over low (leb (length b) longest) refl e), λ h. ap (λ (o : Outcome). o .played .answer) (play-eleven t b h))
+  where
+    over : start (ours .slots) ≤ length b → (x : Bool) → leb (length b) longest ≡ x → plays t b .played .answer ≡ Refused BufferSize → longest < length b
+    over low true q e = absurd (play-sized b low (leb-true (length b) longest q) t e)
+    over low false q e = leb-false (length b) longest q
 
 pub play-keeps : (t b : List ℕ) (x : Refusal) → plays t b .played .answer ≡ Refused x
     → ((x ≡ BufferSize) × (plays t b .bytes ≡ b)) ⊎ ((p : ℕ) × (x ≡ TraceFault p))

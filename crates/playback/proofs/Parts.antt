@@ -5,17 +5,19 @@
 --     passes-over           the last pass, after which no more follows, ends the playback
 --     passes-goes           with the longest record there is in front, a pass uses some of it or ends the playback
 --     fed-last              so one part that is all of the trace is a way to play it
+--     end-fault             a playback that ends is told at fault exactly where it was stopped, with that place
 -- Assumes nothing.
 use mathlib.Core.Path.{_≡_, refl, sym, ap, subst, _∙_}
 use mathlib.Core.Bool.{Bool, true, false, cond}
 use mathlib.Core.List.{List, [], _++_, append-nil}
-use mathlib.Core.Logic.{_⊎_}
+use mathlib.Core.Logic.{_↔_, _⊎_}
 use Prim.Native.Nat.{ℕ, zero, suc, _+_, _-_, _≤_, _<_}
 use native.Mathlib.Omega.{arith}
 use lib.Dec.{leb}
 use lib.ListN.{length, drop, getD}
 use borrow.Author.Tests.{le-leb}
 use Rattle.refusal.specs.declared.Refusal.{Refusal}
+use Rattle.refusal.specs.declared.Refusal.the-variants.{TraceFault}
 use Rattle.contents.specs.Contents.{Contents, holds, refused, image, longest, roomOf, start}
 use Rattle.contents.proofs.Judged.{Bytes}
 use Rattle.contents.proofs.Written.{image-length}
@@ -35,9 +37,10 @@ use Rattle.playback.specs.declared.Played.{Played}
 use Rattle.playback.specs.declared.Stage.{Stage}
 use Rattle.playback.specs.declared.Stage.the-variants.{Header, Records, Stopped}
 use Rattle.playback.specs.Trace.{countIn, firstIn, fits, recordAt, sizeAt}
-use Rattle.playback.specs.Plays.{Run, handed, plays, runIn}
+use Rattle.playback.specs.Plays.{Run, answerOf, handed, plays, runIn}
 use Rattle.playback.specs.Plays as whole
-use Rattle.playback.specs.Parts.{Outcome, Went, ended, halts, hopeless, isOver, onContents, passFrom, passGap, passHeader, passRecords, passes, started, went}
+use Rattle.playback.specs.Parts.{Outcome, Went, ended, halts, hopeless, isOver, onContents, passFrom, passGap, passHeader, passRecords}
+use Rattle.playback.specs.Parts.{passes, started, stopOf, went}
 use Rattle.playback.specs.Parts as parts
 use Rattle.playback.proofs.Passing.{Keeps, Near, over-rest, pass-goes, pass-over, pass-rest, pass-used, restFrom}
 use Rattle.playback.proofs.Playing.{first-small}
@@ -56,6 +59,16 @@ pub data Fed : Cursor → List ℕ → List ℕ → Played → List ℕ → Type
   part : {c : Cursor} {b : List ℕ} {x : Played} {y : List ℕ} (more : Bool) (p q : List ℕ) → (more ≡ false → q ≡ [])
       → Fed (passes more c p b .passed .cursor) (passes more c p b .bytes) (drop (usedBy (passes more c p b .passed .answer)) (p ++ q)) x y
       → Fed c b (p ++ q) x y
+
+-- ---- the end
+
+pub end-fault : (c : Cursor) (p : ℕ) → (ended c .answer ≡ Refused (TraceFault p)) ↔ (c .stage ≡ Stopped p)
+end-fault c p = ((λ e. at (c .stage) e), λ e. ap (λ (g : Stage). answerOf (stopOf g)) e)
+  where
+    at : (g : Stage) → answerOf (stopOf g) ≡ Refused (TraceFault p) → g ≡ Stopped p
+    at Header q = absurd (done-refused 0 (TraceFault p) q)
+    at (Records left skip n) q = absurd (done-refused 0 (TraceFault p) q)
+    at (Stopped n) q = let z : n ≡ p = cc in ap (λ (i : ℕ). Stopped i) z
 
 -- ---- one pass, on any bytes
 

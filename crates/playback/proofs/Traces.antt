@@ -1,4 +1,5 @@
 -- The records of whole traces, and the runs that they give.
+--     headed-true, true-headed          a header is one exactly if its four bytes are there and the first offset is at least 4
 --     traced-prefix, run-prefix         a smaller count in the header gives the records, and the state, of that prefix
 --     traced-cut, run-cut               and so do the bytes cut there, with a fault where records are missing
 --     traced-behind, traced-between     what stands behind the last record, or before the first, is never looked at
@@ -44,10 +45,14 @@ headed-true t h = go (leb 4 (length t)) refl (leb 4 (firstIn t)) refl h
     go true p false q e = absurd (false≢true e)
     go false p y q e = absurd (false≢true e)
 
+pub true-headed : (t : List ℕ) → Headed t → headed t ≡ true
+unfolding headed
+true-headed t h = rw (le-leb 4 (length t) (h .long), le-leb 4 (firstIn t) (h .behind))
+
 module _ (t : List ℕ) where
   pub traced-headed : 4 ≤ length t → 4 ≤ firstIn t → traced t ≡ recordsFrom (countIn t) (firstIn t) (drop (firstIn t) t)
-  unfolding traced headed
-  traced-headed h k = rw (le-leb 4 (length t) h, le-leb 4 (firstIn t) k) refl
+  unfolding traced
+  traced-headed h k = rw (true-headed t (record { long = h; behind = k })) refl
 
   pub traced-short : length t < 4 → traced t ≡ stoppedAt 0
   unfolding traced headed
