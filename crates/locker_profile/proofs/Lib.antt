@@ -3,6 +3,7 @@ pub mod Bounds
 pub mod Paths
 pub mod Asking
 pub mod Latest
+pub mod Shared
 pub mod Laws
 pub mod Outcome
 pub mod Examples

@@ -5,16 +5,15 @@ use mathlib.Core.Bool.{Bool, false, false≢true, not, true, _&&_}
 use mathlib.Core.Logic.{inl, inr, _⊎_}
 use Prim.Native.Nat.{ℕ, suc, zero, _%_, _*_, _<_, _≤_, _^_}
 use native.Mathlib.Omega.{arith}
-use borrow.Author.Tests.{eqb-true, le-leb, leb-true, lt-leb, ltb-false, ltb-true}
-use lib.Dec.{eqb, leb, ltb}
+use borrow.Author.Tests.{le-leb, lt-leb, ltb-false, ltb-true}
+use lib.Dec.{leb, ltb}
 use lib.Pow.{pow-mono}
-use Rattle.settings.proofs.Settings.{both}
 use Rattle.cmd_lora.specs.Methods.{over}
 use Rattle.locker_profile.specs.declared.Lora.{Lora}
 use Rattle.locker_profile.specs.declared.Answer.the-variants.{Broken}
 use Rattle.locker_profile.specs.Profile.{judged}
 use Rattle.locker_profile.specs.Rules.{spreadingFactor, width, widthIn, widthOf}
-use Rattle.locker_profile.proofs.Rules.{either}
+use Rattle.locker_profile.proofs.Rules.{spreading-factor-is, width-is}
 
 -- ---- a number between two
 
@@ -57,8 +56,7 @@ pub chips-are : (sf : ℕ) → sf ≤ 12 → (1 * 2 ^ sf) % 18446744073709551616
 chips-are sf h = omega (arith, chips-most sf h)
 
 pub spreads-most : (x : Lora) → spreadingFactor x ≡ true → x .sf ≤ 12
-unfolding spreadingFactor
-spreads-most x h = leb-true (x .sf) 12 (both (leb 7 (x .sf)) (leb (x .sf) 12) h .1)
+spreads-most x h = spreading-factor-is x .0 h .1
 
 -- the two widths that rule 2 lets through, by code
 pub width-125 : (c : ℕ) → c ≡ 4 → over 125000 1 ≡ widthOf c
@@ -66,12 +64,12 @@ unfolding widthIn
 width-125 c e = rw e
 
 pub width-250 : (x : Lora) → width x ≡ true → (x .«lora_bw» ≡ 4 → ⊥) → over 250000 1 ≡ widthOf (x .«lora_bw»)
-unfolding width widthIn
-width-250 x h n = by (either (eqb (x .«lora_bw») 4) (eqb (x .«lora_bw») 5) h)
+unfolding widthIn
+width-250 x h n = by (width-is x .0 h)
   where
-    by : (eqb (x .«lora_bw») 4 ≡ true) ⊎ (eqb (x .«lora_bw») 5 ≡ true) → over 250000 1 ≡ widthOf (x .«lora_bw»)
-    by (inl e) = absurd (n (eqb-true (x .«lora_bw») 4 e))
-    by (inr e) = rw (eqb-true (x .«lora_bw») 5 e)
+    by : (x .«lora_bw» ≡ 4) ⊎ (x .«lora_bw» ≡ 5) → over 250000 1 ≡ widthOf (x .«lora_bw»)
+    by (inl e) = absurd (n e)
+    by (inr e) = rw e
 
 -- ---- the answer
 

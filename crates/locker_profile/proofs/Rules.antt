@@ -2,7 +2,8 @@
 --     kept-none, none-kept        no test fails exactly if each holds
 --     fails-place, place-fails    the place is that of a test which fails while those before it hold, and of no other
 --     place-most                  and lies in the list
---     kept-means, means-kept      the seven rules in numbers
+--     spreading-factor-is and its like      each rule in numbers: it is kept exactly if they are so, whatever the other arguments are
+--     kept-means, means-kept      and so all seven
 --     passing                     and by the names of the enums: which spreading factors, widths and rates pass rules 1 to 3
 --     long-pairs                  of the pairs that rules 1 and 2 let through, three have long symbols
 --     sixteen-long                a symbol of 16 ms sharp would be long,
@@ -11,7 +12,7 @@
 use mathlib.Core.Path.{refl, sym, _∙_, _≡_}
 use mathlib.Core.Bool.{Bool, cond, false, false≢true, true, _&&_, _||_}
 use mathlib.Core.List.{List, [], _∷_}
-use mathlib.Core.Logic.{inl, inr, _⊎_}
+use mathlib.Core.Logic.{inl, inr, _↔_, _⊎_}
 use Prim.Native.Nat.{ℕ, suc, zero, _*_, _+_, _<_, _≤_, _^_}
 use native.Mathlib.Omega.{arith}
 use borrow.Author.Tests.{eq-eqb, eqb-true, le-leb, leb-true}
@@ -91,27 +92,60 @@ place-most n m ts x e =
     let f = place-fails n m ts x e in
     (omega (arith, f .there), omega (arith, f .there, fails-within (f .before) ts x (f .fails)))
 
--- ---- the rules in numbers
+-- ---- each rule in numbers
 
 -- 16 ms or more: 2^sf over hz / parts is at least 16 / 1000
 abbrev pub Long : ℕ → Width → Type 0
 Long sf w = 16 * w .hz ≤ 2 ^ sf * w .parts * 1000
 
-pub record Keeps (x : Lora) : Type 0 where
-  pub spreadingFactor : (7 ≤ x .sf) × (x .sf ≤ 12)
-  pub width : (x .«lora_bw» ≡ 4) ⊎ (x .«lora_bw» ≡ 5)
-  pub rate : (1 ≤ x .«lora_cr») × (x .«lora_cr» ≤ 4)
-  pub header : x .«header_type» ≡ 0
-  pub crc : x .«crc_en» ≡ 1
-  pub syncword : x .syncword ≡ 0x12
-  pub on : Long (x .sf) (widthOf (x .«lora_bw»)) → x .ldro ≡ 1
-  pub off : (Long (x .sf) (widthOf (x .«lora_bw»)) → ⊥) → x .ldro ≡ 0
-
-pub either : (x y : Bool) → x || y ≡ true → (x ≡ true) ⊎ (y ≡ true)
+either : (x y : Bool) → x || y ≡ true → (x ≡ true) ⊎ (y ≡ true)
 either true y e = inl refl
 either false y e = inr e
 
+-- a number between two, and a number that is another
+between : (least most v : ℕ) → (leb least v && leb v most ≡ true) ↔ ((least ≤ v) × (v ≤ most))
+between least most v = (
+  λ e. let h = both (leb least v) (leb v most) e in (leb-true least v (h .0), leb-true v most (h .1)),
+  λ h. rw (le-leb least v (h .0), le-leb v most (h .1)),
+)
+
+equals : (v n : ℕ) → (eqb v n ≡ true) ↔ (v ≡ n)
+equals v n = (eqb-true v n, eq-eqb v n)
+
 module _ (x : Lora) where
+  pub spreading-factor-is : (spreadingFactor x ≡ true) ↔ ((7 ≤ x .sf) × (x .sf ≤ 12))
+  unfolding spreadingFactor
+  spreading-factor-is = between 7 12 (x .sf)
+
+  -- the codes of 125 and 250 kHz
+  pub width-is : (width x ≡ true) ↔ ((x .«lora_bw» ≡ 4) ⊎ (x .«lora_bw» ≡ 5))
+  unfolding width
+  width-is = ((λ e. which (either (eqb (x .«lora_bw») 4) (eqb (x .«lora_bw») 5) e)), wide)
+    where
+      which : (eqb (x .«lora_bw») 4 ≡ true) ⊎ (eqb (x .«lora_bw») 5 ≡ true) → (x .«lora_bw» ≡ 4) ⊎ (x .«lora_bw» ≡ 5)
+      which (inl e) = inl (eqb-true (x .«lora_bw») 4 e)
+      which (inr e) = inr (eqb-true (x .«lora_bw») 5 e)
+
+      wide : (x .«lora_bw» ≡ 4) ⊎ (x .«lora_bw» ≡ 5) → eqb (x .«lora_bw») 4 || eqb (x .«lora_bw») 5 ≡ true
+      wide (inl e) = rw e
+      wide (inr e) = rw e
+
+  pub rate-is : (rate x ≡ true) ↔ ((1 ≤ x .«lora_cr») × (x .«lora_cr» ≤ 4))
+  unfolding rate
+  rate-is = between 1 4 (x .«lora_cr»)
+
+  pub header-is : (header x ≡ true) ↔ (x .«header_type» ≡ 0)
+  unfolding header
+  header-is = equals (x .«header_type») 0
+
+  pub crc-is : (crc x ≡ true) ↔ (x .«crc_en» ≡ 1)
+  unfolding crc
+  crc-is = equals (x .«crc_en») 1
+
+  pub syncword-is : (syncword x ≡ true) ↔ (x .syncword ≡ 0x12)
+  unfolding syncword
+  syncword-is = equals (x .syncword) 0x12
+
   abbrev lasts : Type 0
   lasts = Long (x .sf) (widthOf (x .«lora_bw»))
 
@@ -135,45 +169,55 @@ module _ (x : Lora) where
       by true e = absurd (n (is-long e))
       by false e = refl
 
-  pub kept-means : AllKept rules x → Keeps x
-  unfolding spreadingFactor width rate header crc syncword optimisation
-  kept-means (h1, (h2, (h3, (h4, (h5, (h6, (h7, u))))))) =
-      let s = both (leb 7 (x .sf)) (leb (x .sf) 12) h1 in
-      let r = both (leb 1 (x .«lora_cr»)) (leb (x .«lora_cr») 4) h3 in
-      let o : x .ldro ≡ dueFor x = eqb-true (x .ldro) (dueFor x) h7 in
-      record {
-        spreadingFactor = (leb-true 7 (x .sf) (s .0), leb-true (x .sf) 12 (s .1));
-        width = which (either (eqb (x .«lora_bw») 4) (eqb (x .«lora_bw») 5) h2);
-        rate = (leb-true 1 (x .«lora_cr») (r .0), leb-true (x .«lora_cr») 4 (r .1));
-        header = eqb-true (x .«header_type») 0 h4;
-        crc = eqb-true (x .«crc_en») 1 h5;
-        syncword = eqb-true (x .syncword) 0x12 h6;
-        on = λ h. o ∙ due-on h;
-        off = λ n. o ∙ due-off n;
-      }
+  -- on from 16 ms on, and off below
+  pub optimisation-is : (optimisation x ≡ true) ↔ ((lasts → x .ldro ≡ 1) × ((lasts → ⊥) → x .ldro ≡ 0))
+  unfolding optimisation
+  optimisation-is = (
+    λ e. let o : x .ldro ≡ dueFor x = eqb-true (x .ldro) (dueFor x) e in ((λ h. o ∙ due-on h), λ n. o ∙ due-off n),
+    λ h. eq-eqb (x .ldro) (dueFor x) (by (isLong (x .sf) (widthOf (x .«lora_bw»))) refl (h .0) (h .1)),
+  )
     where
-      which : (eqb (x .«lora_bw») 4 ≡ true) ⊎ (eqb (x .«lora_bw») 5 ≡ true) → (x .«lora_bw» ≡ 4) ⊎ (x .«lora_bw» ≡ 5)
-      which (inl e) = inl (eqb-true (x .«lora_bw») 4 e)
-      which (inr e) = inr (eqb-true (x .«lora_bw») 5 e)
+      by : (b : Bool) → isLong (x .sf) (widthOf (x .«lora_bw»)) ≡ b → (lasts → x .ldro ≡ 1) → ((lasts → ⊥) → x .ldro ≡ 0) → x .ldro ≡ dueFor x
+      by true e on off = on (is-long e) ∙ sym (due-on (is-long e))
+      by false e on off = off (λ h. false≢true (sym e ∙ long-is h)) ∙ sym (due-off (λ h. false≢true (sym e ∙ long-is h)))
+
+-- ---- all of them
+
+pub record Keeps (x : Lora) : Type 0 where
+  pub spreadingFactor : (7 ≤ x .sf) × (x .sf ≤ 12)
+  pub width : (x .«lora_bw» ≡ 4) ⊎ (x .«lora_bw» ≡ 5)
+  pub rate : (1 ≤ x .«lora_cr») × (x .«lora_cr» ≤ 4)
+  pub header : x .«header_type» ≡ 0
+  pub crc : x .«crc_en» ≡ 1
+  pub syncword : x .syncword ≡ 0x12
+  pub on : Long (x .sf) (widthOf (x .«lora_bw»)) → x .ldro ≡ 1
+  pub off : (Long (x .sf) (widthOf (x .«lora_bw»)) → ⊥) → x .ldro ≡ 0
+
+module _ (x : Lora) where
+  pub kept-means : AllKept rules x → Keeps x
+  kept-means (h1, (h2, (h3, (h4, (h5, (h6, (h7, u))))))) =
+      record {
+        spreadingFactor = spreading-factor-is x .0 h1;
+        width = width-is x .0 h2;
+        rate = rate-is x .0 h3;
+        header = header-is x .0 h4;
+        crc = crc-is x .0 h5;
+        syncword = syncword-is x .0 h6;
+        on = optimisation-is x .0 h7 .0;
+        off = optimisation-is x .0 h7 .1;
+      }
 
   pub means-kept : Keeps x → AllKept rules x
-  unfolding spreadingFactor width rate header crc syncword optimisation
-  means-kept k =
-      let first : leb 7 (x .sf) && leb (x .sf) 12 ≡ true = rw (le-leb 7 (x .sf) (k .spreadingFactor .0), le-leb (x .sf) 12 (k .spreadingFactor .1)) in
-      let third : leb 1 (x .«lora_cr») && leb (x .«lora_cr») 4 ≡ true = rw (le-leb 1 (x .«lora_cr») (k .rate .0), le-leb (x .«lora_cr») 4 (k .rate .1)) in
-      let fourth = eq-eqb (x .«header_type») 0 (k .header) in
-      let fifth = eq-eqb (x .«crc_en») 1 (k .crc) in
-      let sixth = eq-eqb (x .syncword) 0x12 (k .syncword) in
-      let seventh = eq-eqb (x .ldro) (dueFor x) (by (isLong (x .sf) (widthOf (x .«lora_bw»))) refl) in
-      (first, (wide (k .width), (third, (fourth, (fifth, (sixth, (seventh, tt)))))))
-    where
-      wide : (x .«lora_bw» ≡ 4) ⊎ (x .«lora_bw» ≡ 5) → eqb (x .«lora_bw») 4 || eqb (x .«lora_bw») 5 ≡ true
-      wide (inl e) = rw (eq-eqb (x .«lora_bw») 4 e)
-      wide (inr e) = rw e
-
-      by : (b : Bool) → isLong (x .sf) (widthOf (x .«lora_bw»)) ≡ b → x .ldro ≡ dueFor x
-      by true e = k .on (is-long e) ∙ sym (due-on (is-long e))
-      by false e = k .off (λ h. false≢true (sym e ∙ long-is h)) ∙ sym (due-off (λ h. false≢true (sym e ∙ long-is h)))
+  means-kept k = (
+    spreading-factor-is x .1 (k .spreadingFactor),
+    (
+      width-is x .1 (k .width),
+      (
+        rate-is x .1 (k .rate),
+        (header-is x .1 (k .header), (crc-is x .1 (k .crc), (syncword-is x .1 (k .syncword), (optimisation-is x .1 (k .on, k .off), tt)))),
+      ),
+    ),
+  )
 
 -- ---- the first three rules by name
 

@@ -2,3 +2,4 @@ pub mod Rules
 pub mod Profile
 pub mod Steps
 pub mod Latest
+pub mod Shared
