@@ -1,15 +1,15 @@
 -- A list bank by bank, in the source's own terms: the judgement goes on (`judge-pass`), stops (`judge-unserved`, `judge-other`) or ends
 -- (`judge-end`); the list of the right codes has each bank's at its place (`codes-at`), and is judged as its needs can be served (`found-pass`,
--- `found-stop`).
+-- `found-stop`). Lengths are right exactly if there are 1 to 32 banks and as many codes (`lengths-say`, `say-lengths`).
 -- Assumes nothing.
-use mathlib.Core.Path.{_≡_, refl, sym, ap, subst, _∙_}
+use mathlib.Core.Path.{_≡_, refl, sym, ap, _∙_}
 use mathlib.Core.Bool.{Bool, true, false, cond, _&&_, false≢true}
 use mathlib.Core.List.{List, [], _∷_, _++_, append-nil}
 use Prim.Native.Nat.{ℕ, zero, suc, _+_, _-_, _≤_, _<_}
 use native.Mathlib.Numerals.{add-one}
 use native.Mathlib.Nat.{sub-zero}
 use native.Mathlib.Omega.{arith}
-use borrow.Author.Tests.{eqb-true, le-leb, leb-true}
+use borrow.Author.Tests.{eq-eqb, eqb-true, le-leb, leb-true}
 use lib.Dec.{eqb, leb}
 use lib.ListN.{drop, drop-of-length-le, getD, length, set, take}
 use lib.Seq.{drop-cons, drop-length, paste, take-length, take-suc, take-suc-set}
@@ -24,7 +24,7 @@ use Rattle.bank_widths.specs.declared.Choice.the-variants.{Code, None}
 use Rattle.width_rule.specs.Rule.{isRight, isServed, rightFor}
 use Rattle.bank_widths.specs.Lists.{found, foundIn, ifDone, judged, judgedFrom, lengthsRight, rightCodes}
 use Rattle.bank_widths.specs.Keys.{choiceFor}
-use Rattle.width_rule.proofs.Rules.{Right, means-right, right-means, right-once}
+use Rattle.width_rule.proofs.Rules.{means-right, right-means, right-once}
 use Rattle.bank_widths.proofs.Search.{served-right}
 
 -- ---- what a choice says of its bank
@@ -139,6 +139,10 @@ module _ (n m : ℕ) where
       let p = both (leb 1 n) (leb n 32 && eqb n m) h in
       let q = both (leb n 32) (eqb n m) (p .1) in
       (leb-true 1 n (p .0), leb-true n 32 (q .0), eqb-true n m (q .1))
+
+  pub say-lengths : 1 ≤ n → n ≤ 32 → n ≡ m → lengthsRight n m ≡ true
+  unfolding lengthsRight
+  say-lengths l h e = rw (le-leb 1 n l, le-leb n 32 h, eq-eqb n m e)
 
 module _ (ns cs : List ℕ) where
   pub judged-in : lengthsRight (length ns) (length cs) ≡ true → judgedFrom 0 ns cs ≡ judged ns cs

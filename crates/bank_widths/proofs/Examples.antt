@@ -4,13 +4,14 @@
 use mathlib.Core.Path.{_≡_, refl}
 use mathlib.Core.List.{List, [], _∷_}
 use Prim.Native.Nat.{ℕ}
+use lib.ListN.{replicate}
 use Rattle.table.specs.Codes.{isIn, rxBwCodes}
 use Rattle.rx_bw.specs.Width.{isNamed}
 use Rattle.refusal.specs.Numbers.{numberOf, placeOf}
 use Rattle.bank_widths.specs.declared.Answer.{Answer}
 use Rattle.bank_widths.specs.declared.Answer.the-variants.{Done, Refused}
-use Rattle.width_rule.specs.Rule.{anySuffices, isRight, isServed, noneNarrower, suffices}
-use Rattle.bank_widths.specs.Lists.{judged, judgedFrom, lengthsRight}
+use Rattle.width_rule.specs.Rule.{anySuffices, isRight, isServed, noneNarrower, rightFor, rightIn, suffices}
+use Rattle.bank_widths.specs.Lists.{found, foundIn, judged, judgedFrom, lengthsRight, rightCodes}
 
 record Case : Type 0 where
   needs : List ℕ
@@ -43,8 +44,19 @@ cases =
     ∷ given [] [] 21 0
     ∷ given (3076924 ∷ []) [] 21 0
     ∷ given (3473 ∷ []) (231 ∷ 231 ∷ []) 21 0
+    -- the most banks that a list may have, and one more
+    ∷ given (replicate 32 3076923) (replicate 32 0) 0 32
+    ∷ given (replicate 33 3076923) (replicate 33 0) 21 0
     ∷ []
 
-examples : answers cases ≡ expected cases
+pub examples : answers cases ≡ expected cases
 unfolding anySuffices isIn isNamed isRight isServed judged judgedFrom lengthsRight noneNarrower rxBwCodes suffices
 examples = refl
+
+-- what find answers, and what it leaves of an output of ones: as many codes as banks, or nothing
+abbrev finds : ℕ → List (List ℕ)
+finds n = numbers (found (replicate n 3076923) n) ∷ foundIn (replicate n 3076923) (replicate n 1) ∷ []
+
+pub found-most : (finds 32 ≡ (0 ∷ 32 ∷ []) ∷ replicate 32 0 ∷ []) × (finds 33 ≡ (21 ∷ 0 ∷ []) ∷ replicate 33 1 ∷ [])
+unfolding anySuffices found foundIn isIn isNamed isRight isServed judgedFrom lengthsRight noneNarrower rightCodes rightFor rightIn rxBwCodes suffices
+found-most = (refl, refl)

@@ -1,5 +1,5 @@
--- What the request asks of lists, bank by bank (REFERENCE, "Widths for banks"); proofs/Rules.antt has what a right code is, and that there is
--- at most one.
+-- What the request asks of lists, bank by bank (REFERENCE, "Widths for banks"); width_rule, proofs/Rules.antt, has what a right code is, and that
+-- there is at most one.
 --     served-most                 a need can be served exactly if it is at most 3,076,923 Hz
 --     accepts-all, all-accepts    a list of codes is accepted exactly if the lengths are right and every code is
 --     auto-never                  `BwAuto` is never right
@@ -23,8 +23,8 @@ use mathlib.Core.Logic.{_⊎_, inl, inr}
 use Prim.Native.Nat.{ℕ, zero, suc, _+_, _*_, _-_, _≤_, _<_}
 use native.Mathlib.Nat.{mul-le-mul-left}
 use native.Mathlib.Omega.{arith}
-use borrow.Author.Tests.{eq-eqb, le-leb, leb-false, leb-true, lt-leb}
-use lib.Dec.{eqb, leb}
+use borrow.Author.Tests.{leb-false, leb-true}
+use lib.Dec.{leb}
 use lib.ListN.{drop, getD, length, take}
 use Rattle.table.specs.Codes.{rxBwCodes}
 use Rattle.rx_bw.specs.Width.{divisor}
@@ -34,7 +34,7 @@ use Rattle.refusal.specs.declared.Refusal.the-variants.{NoWidth, NotNarrowest, 
 use Rattle.refusal.specs.Numbers.{numberOf, placeOf}
 use Rattle.bank_widths.specs.declared.Answer.{Answer}
 use Rattle.bank_widths.specs.declared.Answer.the-variants.{Done, Refused}
-use Rattle.width_rule.specs.Rule.{isRight, isServed, rightFor}
+use Rattle.width_rule.specs.Rule.{isRight, isServed}
 use Rattle.bank_widths.specs.Lists.{found, foundIn, ifDone, judged, judgedFrom, lengthsRight, rightCodes}
 use Rattle.width_rule.proofs.Listed.{listed-bounds, widest}
 use Rattle.width_rule.proofs.Rules.{Right, any-no, any-yes, means-right, right-found, right-means, right-served, suffices-is, suffices-says}
@@ -63,13 +63,13 @@ served-most need = by (leb need 3076923) refl
     by true e =
         let h : need ≤ 3076923 = leb-true need 3076923 e in
         let q : need * divisor 0 ≡ need * 13 = ap (λ (k : ℕ). need * k) (widest .1) in
-        any-yes need 0 rxBwCodes (suffices-is need 0 (widest .0) (le-leb (need * divisor 0) 40000000 (omega (arith, h, q)))) (named-in 0 (widest .0))
+        any-yes need 0 rxBwCodes (suffices-is need 0 (widest .0) (omega (arith, h, q))) (named-in 0 (widest .0))
     by false e =
         any-no need rxBwCodes
         (λ c s.
         let p = suffices-says need c s in
         let m : need * 13 ≤ need * divisor c = mul-le-mul-left need (listed-bounds c (p .0) .least) in
-        omega (arith, leb-false need 3076923 e, leb-true (need * divisor c) 40000000 (p .1), m))
+        omega (arith, leb-false need 3076923 e, p .1, m))
 
 -- ---- lists that are accepted
 

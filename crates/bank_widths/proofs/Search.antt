@@ -10,15 +10,15 @@ use mathlib.Core.Logic.{_⊎_, inl, inr}
 use Prim.Native.Nat.{ℕ, zero, suc, _+_, _*_, _/_, _%_, _≤_, _<_}
 use native.Mathlib.Nat.{le-div-iff-mul-le, mul-comm}
 use native.Mathlib.Omega.{arith}
-use borrow.Author.Tests.{eqb-false, eqb-true, le-leb, leb-true, ltb-false, ltb-true}
-use lib.Dec.{eqb, leb, ltb}
+use borrow.Author.Tests.{eqb-false, eqb-true, ltb-false, ltb-true}
+use lib.Dec.{eqb, ltb}
 use Rattle.table.specs.Codes.{rxBwCodes}
 use Rattle.rx_bw.specs.Width.{divisor, isNamed}
-use Rattle.width_rule.specs.Rule.{isAtLeast, isAtMost, isServed, rightFor, widthOf}
+use Rattle.width_rule.specs.Rule.{isServed, rightFor}
 use Rattle.bank_widths.specs.Keys.{better, choiceFor, greatest, keyOf, keysBelow, limitOf, listedKeys}
 use Rattle.bank_widths.specs.declared.Choice.the-variants.{Code, None}
 use Rattle.width_rule.proofs.Listed.{listed-bounds}
-use Rattle.width_rule.proofs.Rules.{Right, any-no, right-found, right-served, suffices-says}
+use Rattle.width_rule.proofs.Rules.{Enough, NoWider, Right, any-no, right-found, right-served, suffices-says}
 
 -- ---- keys
 
@@ -34,20 +34,20 @@ module _ (c : ℕ) (h : isNamed c ≡ true) where
 
   -- a key up to the limit is one whose width is at least the need
   module _ (need : ℕ) where
-    pub limit-enough : keyOf c ≤ limitOf need → isAtLeast (widthOf c) need ≡ true
+    pub limit-enough : keyOf c ≤ limitOf need → Enough need c
     unfolding keyOf limitOf
     limit-enough k = by (eqb need 0) refl k
       where
-        by : (z : Bool) → eqb need 0 ≡ z → divisor c * 256 + c ≤ cond z 18446744073709551615 (40000000 / need * 256 + 255) → leb (need * divisor c) 40000000 ≡ true
+        by : (z : Bool) → eqb need 0 ≡ z → divisor c * 256 + c ≤ cond z 18446744073709551615 (40000000 / need * 256 + 255) → Enough need c
         by true e j =
             let z : need * divisor c ≡ 0 * divisor c = ap (λ (k : ℕ). k * divisor c) (eqb-true need 0 e) in
-            le-leb (need * divisor c) 40000000 (omega (arith, z))
+            omega (arith, z)
         by false e j =
             let p : 0 < need = omega (arith, eqb-false need 0 e) in
             let q : divisor c ≤ 40000000 / need = omega (arith, j) in
-            le-leb (need * divisor c) 40000000 (omega (arith, le-div-iff-mul-le {k = need} {x = divisor c} {y = 40000000} p .0 q, mul-comm need (divisor c)))
+            omega (arith, le-div-iff-mul-le {k = need} {x = divisor c} {y = 40000000} p .0 q, mul-comm need (divisor c))
 
-    pub enough-limit : isAtLeast (widthOf c) need ≡ true → keyOf c ≤ limitOf need
+    pub enough-limit : Enough need c → keyOf c ≤ limitOf need
     unfolding keyOf limitOf
     enough-limit k = by (eqb need 0) refl
       where
@@ -55,16 +55,14 @@ module _ (c : ℕ) (h : isNamed c ≡ true) where
         by true e = omega (arith, listed-bounds c h .most, listed-bounds c h .byte)
         by false e =
             let p : 0 < need = omega (arith, eqb-false need 0 e) in
-            let m : divisor c * need ≤ 40000000 = omega (arith, leb-true (need * divisor c) 40000000 k, mul-comm need (divisor c)) in
+            let m : divisor c * need ≤ 40000000 = omega (arith, k, mul-comm need (divisor c)) in
             let q : divisor c ≤ 40000000 / need = le-div-iff-mul-le {k = need} {x = divisor c} {y = 40000000} p .1 m in
             omega (arith, q, listed-bounds c h .byte)
 
 -- the smaller key has the wider width
-narrower : (c d : ℕ) → isNamed c ≡ true → isNamed d ≡ true → keyOf d ≤ keyOf c → isAtMost (widthOf c) (widthOf d) ≡ true
+narrower : (c d : ℕ) → isNamed c ≡ true → isNamed d ≡ true → keyOf d ≤ keyOf c → NoWider c d
 unfolding keyOf
-narrower c d h k l =
-    let q : divisor d ≤ divisor c = omega (arith, l, listed-bounds c h .byte, listed-bounds d k .byte) in
-    le-leb (40000000 * divisor d) (40000000 * divisor c) (omega (arith, q))
+narrower c d h k l = omega (arith, l, listed-bounds c h .byte, listed-bounds d k .byte)
 
 -- ---- the greatest key
 
@@ -139,7 +137,7 @@ module _ (need : ℕ) where
   searched = best-below (limitOf need) 256
 
   -- no listed width that is at least the need has a greater key
-  bound : (d : ℕ) → isNamed d ≡ true → isAtLeast (widthOf d) need ≡ true → keyOf d ≤ best
+  bound : (d : ℕ) → isNamed d ≡ true → Enough need d → keyOf d ≤ best
   bound d h k = searched .most d (omega (arith, listed-bounds d h .byte)) h (enough-limit d h need k)
 
   pub search-none : greatest (limitOf need) 0 listedKeys ≡ 0 → isServed need ≡ false

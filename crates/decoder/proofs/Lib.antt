@@ -1,3 +1,4 @@
+pub mod Answers
 pub mod Apart
 pub mod Words
 pub mod Stray
@@ -6,5 +7,6 @@ pub mod Clean
 pub mod Seeking
 pub mod Returns
 pub mod Arms
+pub mod Lowest
 pub mod Handed
 pub mod Outcome

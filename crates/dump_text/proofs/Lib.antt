@@ -1,4 +1,5 @@
 pub mod Writing
+pub mod Examples
 pub mod Arguments
 pub mod Longest
 pub mod Passing

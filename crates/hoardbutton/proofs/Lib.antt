@@ -1,3 +1,4 @@
 pub mod Whole
+pub mod Values
 pub mod Keeps
 pub mod Outcome

@@ -10,11 +10,11 @@ use lib.Seq.{take-all, take-take, take-append-seam}
 use Rattle.reading.specs.declared.Text.{Text}
 use Rattle.reading.specs.Level.{textOf}
 use Rattle.refusal.specs.declared.Refusal.{Refusal}
-use Rattle.refusal.specs.Numbers.{placeOf}
+use Rattle.refusal.specs.Numbers.{numberOf, placeOf}
 use Rattle.refusal.proofs.Numbers.{number-bounds}
-use Rattle.decoder.specs.Decoding.{Reading, reading, refuses, decode}
+use Rattle.decoder.specs.Decoding.{Reading, reading, refuses, decode, decoded}
 use Rattle.builder.specs.Building as builder
-use Rattle.builder.specs.Building.{Making, makes, checked, plainBy}
+use Rattle.builder.specs.Building.{Making, makes, built, checked, plainBy}
 use Rattle.codec.proofs.Laws.{decode-kind}
 use Rattle.codec.proofs.Places.{placeIn, decode-place, Within, checked-within, plain-within}
 use Rattle.dump_text.proofs.Arguments.{decode-few}
@@ -41,8 +41,11 @@ use Rattle.status.specs.declared.ResetSrc.the-variants as reset
 use Rattle.status.specs.declared.ChipModeStatus.{ChipModeStatus}
 use Rattle.status.specs.declared.ChipModeStatus.the-variants as mode
 use Rattle.status.specs.Codes.{cmdCode, resetCode, modeCode}
+use Rattle.hoardbutton.specs.declared.frames.HbFrame.{HbFrame}
+use Rattle.hoardbutton.specs.declared.frames.HbDecoded.{HbDecoded}
 use Rattle.hoardbutton.specs.Readings.{widths}
 use Rattle.hoardbutton.specs.Answers.{low}
+use Rattle.hoardbutton.specs.Frames.{decodedC, frameC}
 use Rattle.hoardbutton.specs.Profiles.{profileC}
 
 pub beyond : (n k : ℕ) → k ≤ n → (n ≡ k → ⊥) → suc k ≤ n
@@ -129,6 +132,34 @@ checked-whole k vs = built-whole (checked k vs) (checked-within k vs)
 
 pub plain-whole : (k : ℕ) (vs : List ℕ) → WholeFrame (plainBy k vs)
 plain-whole k vs = built-whole (plainBy k vs) (plain-within k vs)
+
+-- so each struct has what was made or read, and zeros beside a refusal
+abbrev pub FrameSays : Making → HbFrame → Type 0
+FrameSays (makes f) r = (r .refusal ≡ 0) × (r .place ≡ 0) × (r .len ≡ length f)
+FrameSays (builder.refuses x) r = (r .refusal ≡ numberOf x) × (r .place ≡ placeOf x) × (r .len ≡ 0)
+
+built-handed : (m : Making) → WholeFrame m → FrameSays m (frameC (built m))
+unfolding built
+built-handed (makes f) w = (refl, refl, w)
+built-handed (builder.refuses x) w = (refl, w, refl)
+
+pub checked-handed : (k : ℕ) (vs : List ℕ) → FrameSays (checked k vs) (frameC (built (checked k vs)))
+checked-handed k vs = built-handed (checked k vs) (checked-whole k vs)
+
+pub plain-handed : (k : ℕ) (vs : List ℕ) → FrameSays (plainBy k vs) (frameC (built (plainBy k vs)))
+plain-handed k vs = built-handed (plainBy k vs) (plain-whole k vs)
+
+abbrev pub ReadingSays : Reading → HbDecoded → Type 0
+ReadingSays (reading k vs) r = (r .refusal ≡ 0) × (r .place ≡ 0) × (r .kind ≡ k) × (r .count ≡ length vs)
+ReadingSays (refuses x) r = (r .refusal ≡ numberOf x) × (r .place ≡ placeOf x) × (r .kind ≡ 0) × (r .count ≡ 0)
+
+pub decoded-handed : (f : List ℕ) → ReadingSays (decode f) (decodedC (decoded (decode f)))
+unfolding decoded
+decoded-handed f = by (decode f) (decoded-whole f)
+  where
+    by : (x : Reading) → WholeRead x → ReadingSays x (decodedC (decoded x))
+    by (reading k vs) w = (refl, refl, w .0, w .1)
+    by (refuses x) w = (refl, w, refl, refl)
 
 -- ---- the book
 

@@ -3,7 +3,8 @@ ghost use mathlib.Core.Path.{_≡_};
 ghost use Rattle.hoardbutton.specs.Answers.{low, doneC, refusedC};
 use refusal::Refusal;
 
-// Done, with the bytes written where a call writes; or a refusal with its place.
+// Done, with the bytes written where a call writes, the number of banks where it judges or finds widths, the broken rule where it judges a profile;
+// or a refusal with its place.
 #[repr(C)]
 pub struct HbAnswer {
     pub refusal: u32,

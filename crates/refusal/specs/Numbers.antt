@@ -22,7 +22,7 @@ numberOf (UnknownCode at) = 5
 numberOf (ArgumentOutside at) = 6
 -- a response of another length than its own
 numberOf ResponseLength = 7
--- the book has no room for the frame
+-- the book has no room for the frame, or the side's quota has none
 numberOf NoRoom = 8
 -- the book holds no frame of the kind
 numberOf NotHeld = 9

@@ -98,6 +98,6 @@ numbersText d =
 unfoldable pub frameText : ℕ → List ℕ → List ℕ
 frameText index f = word "frame" ++ (32 ∷ lineOf index (decode f))
 
--- where the trace has its fault, behind the number of that refusal (REFERENCE, "Refusals")
+-- where the trace has its fault, behind the number of that refusal, 15 (REFERENCE, "Refusals")
 unfoldable pub stoppedText : ℕ → List ℕ
 stoppedText place = line (word "stopped") (decimal 15 ∷ decimal place ∷ [])

@@ -46,10 +46,10 @@ cases =
     ∷ given 3076924 0 false
     ∷ []
 
-examples : answers cases ≡ expected cases
+pub examples : answers cases ≡ expected cases
 unfolding isIn isNamed isRight noneNarrower rxBwCodes suffices
 examples = refl
 
-found : rightFor 3473 ≡ 167
+pub found : rightFor 3473 ≡ 167
 unfolding isIn isNamed isRight noneNarrower rightFor rightIn rxBwCodes suffices
 found = refl

@@ -1,40 +1,47 @@
--- The rule in its own words, and that there is one right code.
+-- The rule in numbers, and that there is one right code.
 --     right-means, means-right   a code is right exactly if it is listed and not `BwAuto`, its exact width is at least the need, and no such width is
 --                                smaller, which is what `Right` says
 --     right-once                 two codes that are right for a need are one
 --     right-found                the right code is the one that `rightFor` gives
 --     right-served               a need that has a right code can be served
 -- Assumes nothing.
-use mathlib.Core.Path.{_≡_, refl, sym, ap, subst, _∙_}
+use mathlib.Core.Path.{_≡_, refl, sym, ap, _∙_}
 use mathlib.Core.Bool.{Bool, true, false, cond, _&&_, false≢true}
 use mathlib.Core.List.{List, [], _∷_}
 use Prim.Native.Nat.{ℕ, _*_, _≤_}
 use native.Mathlib.Omega.{arith}
-use borrow.Author.Tests.{eqb-true, leb-true}
-use lib.Dec.{eqb, leb}
+use borrow.Author.Tests.{eqb-true, le-leb, leb-true}
+use lib.Dec.{eqb}
 use Rattle.table.specs.Codes.{rxBwCodes, isIn}
 use Rattle.rx_bw.specs.Width.{divisor, isNamed}
 use Rattle.rx_bw.proofs.Names.{both, named-in}
 use Rattle.width_rule.specs.Rule.{anySuffices, isAtLeast, isAtMost, isRight, isServed, noneNarrower, rightFor, rightIn, suffices, widthOf}
 use Rattle.width_rule.proofs.Listed.{listed-apart}
 
+-- a code's width, 40,000,000 Hz over its divisor, is at least the need; and is at most that of another code
+abbrev pub Enough : ℕ → ℕ → Type 0
+Enough need c = need * divisor c ≤ 40000000
+
+abbrev pub NoWider : ℕ → ℕ → Type 0
+NoWider c d = 40000000 * divisor d ≤ 40000000 * divisor c
+
 -- what it means to be right for a need
 pub record Right (need c : ℕ) : Type 0 where
   pub listed : isNamed c ≡ true
-  pub enough : isAtLeast (widthOf c) need ≡ true
-  pub least : (d : ℕ) → isNamed d ≡ true → isAtLeast (widthOf d) need ≡ true → isAtMost (widthOf c) (widthOf d) ≡ true
+  pub enough : Enough need c
+  pub least : (d : ℕ) → isNamed d ≡ true → Enough need d → NoWider c d
 
 joined : (x y : Bool) → x ≡ true → y ≡ true → x && y ≡ true
 joined x y e f = rw (e, f)
 
 module _ (need : ℕ) where
-  pub suffices-says : (c : ℕ) → suffices need c ≡ true → (isNamed c ≡ true) × (isAtLeast (widthOf c) need ≡ true)
+  pub suffices-says : (c : ℕ) → suffices need c ≡ true → (isNamed c ≡ true) × Enough need c
   unfolding suffices
-  suffices-says c h = both (isNamed c) (isAtLeast (widthOf c) need) h
+  suffices-says c h = let p = both (isNamed c) (isAtLeast (widthOf c) need) h in (p .0, leb-true (need * divisor c) 40000000 (p .1))
 
-  pub suffices-is : (c : ℕ) → isNamed c ≡ true → isAtLeast (widthOf c) need ≡ true → suffices need c ≡ true
+  pub suffices-is : (c : ℕ) → isNamed c ≡ true → Enough need c → suffices need c ≡ true
   unfolding suffices
-  suffices-is c h k = joined (isNamed c) (isAtLeast (widthOf c) need) h k
+  suffices-is c h k = joined (isNamed c) (isAtLeast (widthOf c) need) h (le-leb (need * divisor c) 40000000 k)
 
   -- ---- one of a list suffices, or none does
 
@@ -93,21 +100,20 @@ module _ (need : ℕ) where
       record {
         listed = s .0;
         enough = s .1;
-        least = λ d k e. none-says c d rxBwCodes (p .1) (named-in d k) (suffices-is d k e);
+        least = λ d k e. leb-true (40000000 * divisor d) (40000000 * divisor c) (none-says c d rxBwCodes (p .1) (named-in d k) (suffices-is d k e));
       }
 
   pub means-right : (c : ℕ) → Right need c → isRight need c ≡ true
   unfolding isRight
   means-right c r =
       joined (suffices need c) (noneNarrower need c rxBwCodes) (suffices-is c (r .listed) (r .enough))
-      (none-is c rxBwCodes (λ d s. r .least d (suffices-says d s .0) (suffices-says d s .1)))
+      (none-is c rxBwCodes
+      (λ d s. let p = suffices-says d s in le-leb (40000000 * divisor d) (40000000 * divisor c) (r .least d (p .0) (p .1))))
 
   -- widths at most each other have one divisor, and so one code
   pub right-once : (c d : ℕ) → Right need c → Right need d → c ≡ d
   right-once c d r s =
-      let h : 40000000 * divisor d ≤ 40000000 * divisor c = leb-true (40000000 * divisor d) (40000000 * divisor c) (r .least d (s .listed) (s .enough)) in
-      let k : 40000000 * divisor c ≤ 40000000 * divisor d = leb-true (40000000 * divisor c) (40000000 * divisor d) (s .least c (r .listed) (r .enough)) in
-      listed-apart c d (r .listed) (s .listed) (omega (arith, h, k))
+      listed-apart c d (r .listed) (s .listed) (omega (arith, r .least d (s .listed) (s .enough), s .least c (r .listed) (r .enough)))
 
   found-in : (c : ℕ) (xs : List ℕ) → isRight need c ≡ true → isIn c xs ≡ true → rightIn need xs ≡ c
   unfolding rightIn isIn
