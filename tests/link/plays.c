@@ -100,7 +100,7 @@ static const struct {
     {"00 09 00 04 00 00 00 01 02 00 02 03 23 00 03 02 28 00 00 04 02 22 00 80 00 04 02 20 40 10 00 02 02 28 00 03 02 29 00 "
         "01 0C 00 00 00 00 00 00 00 00 00 00 00 00", START,
         {.records = 9, .skipped = 1, .refused = {[1] = 2, [2] = 1, [3] = 2, [4] = 1, [5] = 1}}, {0}},
-    /* A response of no bytes; the last of two, behind an action's frame that is refused too. */
+    /* A response of no bytes is skipped; of two readings the last one counts. */
     {"00 04 00 04 00 02 02 2A 01 00 01 08 00 00 00 01 00 00 00 00 01 08 00 00 00 02 80 FF FF FF", START,
         {.records = 4, .skipped = 1, .has_lora_packet_status = true,
             .lora_packet_status = {.pkt_length = 2, .snr_pkt = -128, .rssi_pkt = 511, .rssi_signal_pkt = 511, .detector = 15}}, {0}},

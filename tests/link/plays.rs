@@ -1,4 +1,4 @@
-// hb_play on random traces and books of every length, against tests/playback.
+// hb_play on random traces and books of many lengths, wrong ones included, against tests/playback.
 use super::*;
 use crate::book::Book;
 use crate::frames::Random;
