@@ -80,7 +80,8 @@ opens-none : (t : OwnerTable) (b : List ℕ) (fs : List (List ℕ)) → ((u : Us
     → afterEvent t e b .answer ≡ Refused BothForms → ⊥
 opens-none t b fs h e q =
     subst (Says Not16) q
-    (event-says Not16 steps-not (λ n. omega arith) (λ n. omega arith) b (λ u x n. absurd (done-refused 0 x (ap verdict (sym (h u) ∙ n)))) (λ n. omega arith) t e)
+    (event-says Not16 steps-not (λ n. omega arith) (λ n. omega arith) b
+    (λ u x n. absurd (done-refused 0 x (ap verdict (sym (h u) ∙ n)))) (λ n. omega arith) t e)
     refl
 
 -- from any list that a book can hold

@@ -1,5 +1,6 @@
 -- A shared book's history: on a fresh book every list of both sides' calls and of whole-book calls gives the answers, the outputs and the bytes of
--- the joint list (`shared-history`, and `shared-from` from any list that a book can hold), and each side's call the answer and the output of two plain lists (`side-history`).
+-- the joint list (`shared-history`, and `shared-from` from any list that a book can hold), and each side's call the answer and the output of two
+-- plain lists (`side-history`).
 -- Assumes nothing.
 use mathlib.Core.Path.{ap, ap₂, refl, subst, sym, _∙_, _≡_}
 use mathlib.Core.Bool.{Bool, cond, false, true, _&&_}
