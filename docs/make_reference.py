@@ -1,70 +1,21 @@
 #!/usr/bin/env python3
-"""make_reference.py: writes the made parts of docs/REFERENCE.md, include/hoardbutton.h and tests/link/named.h from docs/commands.json.
+"""make_reference.py: writes all that is made from docs/commands.json: the tables of docs/REFERENCE.md, the constants of include/hoardbutton.h,
+tests/link/named.h, and what sources and proofs have row by row (docs/make_rows.py).
 
-A made part stands between `from commands.json: NAME` and `end: NAME`. tests/reference fails where a file is not as this makes it.
+A made part stands between `from commands.json: NAME` and `end: NAME`, or in a file of its own, whose first line says so. tests/reference fails
+where a file is not as this makes it. An entry that does not fit ends the script with one line that names it (docs/commands.py).
 """
-import json
 import os
 import re
+import sys
 import textwrap
 from fractions import Fraction
 
-ROOT = os.path.dirname(os.path.dirname(os.path.abspath(__file__)))
+sys.dont_write_bytecode = True
+import make_rows
+from commands import ROOT, fullest, greatest, is_code, load, other_form, settings, snake
+
 LINE = 140
-
-
-def load():
-    with open(os.path.join(ROOT, "docs/commands.json"), encoding="utf8") as file:
-        return json.load(file)
-
-
-# ---- places and ranges
-
-def bits(place):
-    """The bits of a place, each a byte and a bit of the frame, the lowest of the value first."""
-    if place == "none":
-        return []
-    if "+" in place:
-        return [bit for part in reversed(place.split("+")) for bit in bits(part)]
-    if "." in place:
-        byte, span = place.split(".")
-        high, _, low = span.partition("-")
-        return [(int(byte), bit) for bit in range(int(low or high), int(high) + 1)]
-    first, _, last = place.partition("-")
-    return [(byte, bit) for byte in range(int(last or first), int(first) - 1, -1) for bit in range(8)]
-
-
-def narrowed(argument):
-    return argument.get("narrowed", argument["place"])
-
-
-def is_code(data, argument):
-    return argument["takes"] in {e["name"] for e in data["enums"]}
-
-
-def codes_of(data, argument):
-    """The codes that the checked builder takes of an argument that is an enum."""
-    codes = [code for e in data["enums"] if e["name"] == argument["takes"] for code, _ in e["codes"]]
-    return argument.get("checked_codes", codes)
-
-
-def greatest(data, argument):
-    """The greatest value that the checked builder takes."""
-    return max(codes_of(data, argument)) if is_code(data, argument) else argument["range"][1]
-
-
-# ---- the two forms of a setting
-
-def other_form(data, kind):
-    """The kind that is the same setting in another length; None where there is none."""
-    other = {k: pair[1 - i] for pair in data["forms"] for i, k in enumerate(pair)}
-    return data["kinds"][other[kind["kind"]] - 1] if kind["kind"] in other else None
-
-
-def fullest(data):
-    """The kinds of settings that fill a book most: of two forms the longer one."""
-    shorter = [short for short, _ in data["forms"]]
-    return [k for k in data["kinds"] if k["slot"] is not None and k["kind"] not in shorter]
 
 
 # ---- what the sizes come from
@@ -77,16 +28,15 @@ def line_length(data, kind, index_digits=20):
 
 def sizes(data):
     """Every size, computed from the rows, the pairs, the refusals and the rules of texts."""
-    settings = [k for k in data["kinds"] if k["slot"] is not None]
     frames = sum(k["length"] for k in fullest(data))
-    head = 4 + 2 * len(settings)
+    head = 4 + 2 * len(settings(data))
     refused = max(len("0 %d 0" % r["number"]) for r in data["refusals"])
     cut = 20 + 1 + refused + 1
     for k in data["kinds"]:
         assert line_length(data, k) <= cut * (1 + k["length"]), "a frame whose line is longer than HB_DUMP_BYTE_MAX has it"
     return {
         "HB_KINDS": len(data["kinds"]),
-        "HB_SETTINGS": len(settings),
+        "HB_SETTINGS": len(settings(data)),
         "HB_FRAME_MAX": max(k["length"] for k in data["kinds"]),
         "HB_ARGS_MAX": max(len(k["arguments"]) for k in data["kinds"]),
         "HB_BOOK_MIN": head,
@@ -99,6 +49,21 @@ def sizes(data):
         "HB_DUMP_BYTE_MAX": cut,
         "HB_BANKS_MAX": 32,
     }
+
+
+def sizes_told(data):
+    """Each size with its name, its value and what it is."""
+    values = sizes(data)
+    said = {"fullest": len(fullest(data)), "longest": most(data, lambda k: k["length"]), "richest": most(data, lambda k: len(k["arguments"])),
+            "widest": most(data, lambda k: line_length(data, k))}
+    return [(name, values[name], text.format(**said)) for name, text in data["sizes"]]
+
+
+def most(data, measure):
+    """The kinds of which the measure is greatest, as one says them: 6 and 17."""
+    greatest_one = max(map(measure, data["kinds"]))
+    numbers = [str(k["kind"]) for k in data["kinds"] if measure(k) == greatest_one]
+    return " and ".join(filter(None, [", ".join(numbers[:-1]), numbers[-1]]))
 
 
 def lora_hz(code):
@@ -122,11 +87,6 @@ def symbol_ms(sf, code):
 
 
 # ---- names for C
-
-def snake(name):
-    """A name of the Rust for C: NotAKind is NOT_A_KIND, Crc1Byte is CRC1_BYTE, and 1B stays 1B."""
-    return re.sub(r"(?<=[a-z])(?=[A-Z])|(?<=[A-Z0-9])(?=[A-Z][a-z])", "_", name).upper()
-
 
 def c_kind(kind):
     return "HB_" + kind["name"].upper()
@@ -198,7 +158,7 @@ def md_arguments(data):
 def md_enums(data):
     rows = []
     for e in data["enums"]:
-        codes = ", ".join("%d `%s`" % tuple(c) for c in sorted(e["codes"])) if e["name"] != "RxBw" else 'the 91 codes listed in "Widths"'
+        codes = ", ".join("%d `%s`" % tuple(c) for c in sorted(e["codes"])) if e["name"] != "RxBw" else 'the %d codes listed in "Widths"' % len(e["codes"])
         other = "" if e["rust"] == e["name"] else " The Rust's `%s::%s`." % (e["file"], e["rust"])
         rows.append(["`%s`" % e["name"], e["says"] + other, codes])
     return table(["enum", "what it is", "codes"], rows)
@@ -272,7 +232,7 @@ def md_forms(data):
 
 
 def md_sizes(data):
-    return table(["name for C", "size", "what it is"], [["`%s`" % name, comma(value), text] for name, value, text in data["sizes"]])
+    return table(["name for C", "size", "what it is"], [["`%s`" % name, comma(value), text] for name, value, text in sizes_told(data)])
 
 
 # ---- constants of the header
@@ -356,7 +316,7 @@ def c_slots(data):
 
 
 def c_sizes(data):
-    return ["#define %s %d /* %s */" % (name, value, text) for name, value, text in data["sizes"]]
+    return ["#define %s %d /* %s */" % (name, value, text) for name, value, text in sizes_told(data)]
 
 
 def c_status(data):
@@ -377,7 +337,8 @@ def c_named(data):
            "static const struct {", "    uint64_t kind, number;", "    size_t len, count;", "} named_kinds[] = {"]
     out += ["    {%s, %d, %d, %d}," % (c_kind(k), k["kind"], k["length"], len(k["arguments"])) for k in data["kinds"]]
     out += ["};", "", "/* An argument that is a code or a yes or no, and all that the checked builder takes there; more, if the plain one takes one more. */",
-            "static const struct {", "    uint64_t kind;", "    size_t argument, count, more;", "    uint64_t codes[91];", "} named_codes[] = {"]
+            "static const struct {", "    uint64_t kind;", "    size_t argument, count, more;",
+            "    uint64_t codes[%d];" % max(len(e["codes"]) for e in data["enums"]), "} named_codes[] = {"]
     for k in data["kinds"]:
         for n, a in enumerate(k["arguments"], 1):
             if a["takes"] == "number":
@@ -406,35 +367,40 @@ MADE = {
 }
 
 
-def filled(text, name, lines):
-    """The text with these lines between the marks of that name."""
-    start, end = "from commands.json: %s " % name, "end: %s " % name
-    before, first, rest = text.partition(start)
-    assert first and end in rest, "no place for %s" % name
-    mark = rest[:rest.index("\n")]
-    opening = "<!-- " if "-->" in mark else "/* "
-    after = rest[rest.index(end) + len(end):]
-    gap = "\n" if "-->" in mark else ""
-    return before + start + mark.strip() + "\n" + gap + "\n".join(lines).replace("\0", " ") + "\n" + gap + opening + end + after
+def filled(path, text, name, lines):
+    """The text with these lines between the marks of that name, in whatever comments the marks stand; a document has empty lines there too."""
+    start = re.search(r"^.*from commands\.json: %s(?= |$).*\n" % name, text, re.M)
+    end = start and re.search(r"^.*\bend: %s(?= |$)" % name, text[start.end():], re.M)
+    if not end:
+        sys.exit("%s: there is no place for %s" % (path, name))
+    gap = "\n" if path.endswith(".md") else ""
+    return text[:start.end()] + gap + "\n".join(lines).replace("\0", " ") + "\n" + gap + text[start.end() + end.start():]
 
 
 def made(data):
     """Each file as it has to be."""
-    files = {}
-    for path, parts in MADE.items():
+    result = {}
+    for path, parts in {**MADE, **make_rows.made(data)}.items():
         text = ""
         if None not in parts:
             with open(os.path.join(ROOT, path), encoding="utf8") as file:
                 text = file.read()
         for name, make in parts.items():
-            text = "\n".join(make(data)) + "\n" if name is None else filled(text, name, make(data))
-        files[path] = text
-    return files
+            try:
+                lines = make(data)
+            except (AttributeError, LookupError, TypeError, ValueError) as wrong:
+                sys.exit("docs/commands.json: %s: an entry that it is made from is not written as the others are (%s: %s)" % (
+                    name or path, type(wrong).__name__, wrong))
+            text = "\n".join(lines) + "\n" if name is None else filled(path, text, name, lines)
+        result[path] = text
+    return result
 
 
 def main():
     for path, text in made(load()).items():
-        with open(os.path.join(ROOT, path), "w", encoding="utf8") as file:
+        full = os.path.join(ROOT, path)
+        os.makedirs(os.path.dirname(full), exist_ok=True)
+        with open(full, "w", encoding="utf8") as file:
             file.write(text)
 
 

@@ -4,13 +4,14 @@
 -- Assumes nothing.
 use mathlib.Core.Path.{refl, _≡_}
 use mathlib.Core.List.{List, [], map, _++_, _∷_}
-use Prim.Native.Nat.{ℕ}
+use Prim.Native.Nat.{ℕ, _+_}
 use lib.ListN.{replicate}
 use Rattle.frame.specs.Field.{mask, part, read, readTo}
 use Rattle.frame.specs.Layout.{byteOf, maskOf, reads, tab, tabFrom}
 use Rattle.table.specs.Codes.{isIn, lists, rxBwCodes, takes}
 use Rattle.table.specs.Laid.{find}
 use Rattle.table.specs.Number.{narrowOf, narrowsOf}
+use Rattle.table.specs.Table.{kinds}
 use Rattle.refusal.specs.Numbers.{numberOf}
 use Rattle.decoder.specs.Decoding.{answered, decode, judged, known, lacking, sought, stray}
 use Rattle.book.specs.declared.Answer.{Answer}
@@ -71,9 +72,9 @@ inFilled c = told (after c (image ours 65 (sync ∷ [])) .answer)
 refusals :
     (map (inZeros Make) (61 ∷ 62 ∷ 4096 ∷ 4097 ∷ []) ≡ refusal 11 ∷ done 0 ∷ done 0 ∷ refusal 11 ∷ [])
     × (map (inZeros Clear) (61 ∷ 62 ∷ 4096 ∷ 4097 ∷ []) ≡ refusal 11 ∷ refusal 10 ∷ refusal 10 ∷ refusal 11 ∷ [])
-    × (map inFresh (Put [] ∷ Put detection ∷ Remove 0 ∷ Remove 8 ∷ Remove 40 ∷ Remove 4 ∷ [])
+    × (map inFresh (Put [] ∷ Put detection ∷ Remove 0 ∷ Remove 8 ∷ Remove (kinds + 1) ∷ Remove 4 ∷ [])
     ≡ refusal 1 ∷ refusal 13 ∷ refusal 13 ∷ refusal 13 ∷ refusal 13 ∷ refusal 9 ∷ [])
-    × (map inFresh (Ask 0 [] ∷ Ask 8 [] ∷ Ask 40 [] ∷ Ask 4 [] ∷ Replay [] ∷ []) ≡ refusal 13 ∷ refusal 13 ∷ refusal 13 ∷ refusal 9 ∷ done 0 ∷ [])
+    × (map inFresh (Ask 0 [] ∷ Ask 8 [] ∷ Ask (kinds + 1) [] ∷ Ask 4 [] ∷ Replay [] ∷ []) ≡ refusal 13 ∷ refusal 13 ∷ refusal 13 ∷ refusal 9 ∷ done 0 ∷ [])
     × (map inFilled (Ask 4 (replicate 2 0) ∷ Ask 4 (replicate 3 0) ∷ Replay (replicate 3 0) ∷ Replay (replicate 4 0) ∷ [])
     ≡ refusal 12 ∷ done 3 ∷ refusal 12 ∷ done 4 ∷ [])
 unfolding sync detection made callFor openedFor layoutIn opened judge image header words place flat presentFrom offsetAt wordAt allZero framesFrom lengthAt

@@ -33,17 +33,23 @@ use Rattle.book.proofs.Loading.{done, dones, puts, puts-list, puts-over
 -- every setting but the last, in its longer form
 pub front : List (List ℕ)
 front =
-    (0x02 ∷ 0x20 ∷ 0x70 ∷ 0 ∷ []) ∷ (0x02 ∷ 0x21 ∷ 0 ∷ 0 ∷ 0 ∷ 0 ∷ []) ∷ (0x02 ∷ 0x22 ∷ 0 ∷ 0 ∷ []) ∷ (0x02 ∷ 0x23 ∷ 0 ∷ [])
+    -- from commands.json: front
+    (0x02 ∷ 0x20 ∷ 0x50 ∷ 0 ∷ []) ∷ (0x02 ∷ 0x21 ∷ 0 ∷ 0 ∷ 0 ∷ 0 ∷ []) ∷ (0x02 ∷ 0x22 ∷ 0 ∷ 0 ∷ []) ∷ (0x02 ∷ 0x23 ∷ 0 ∷ [])
     ∷ (0x02 ∷ 0x26 ∷ 0 ∷ 0 ∷ 0 ∷ 0 ∷ 0 ∷ 0 ∷ 0 ∷ 0 ∷ 0 ∷ 0 ∷ []) ∷ (0x02 ∷ 0x27 ∷ 0 ∷ 0 ∷ 0 ∷ 0 ∷ 0 ∷ 0 ∷ 0 ∷ [])
-    ∷ (0x02 ∷ 0x2B ∷ 0 ∷ 0 ∷ 0 ∷ 0 ∷ 0 ∷ 0 ∷ 0 ∷ 0 ∷ 0 ∷ []) ∷ (0x02 ∷ 0x2D ∷ 0 ∷ 0 ∷ []) ∷ (0x02 ∷ 0x2E ∷ 0 ∷ 0 ∷ 0 ∷ 0 ∷ 0 ∷ 0 ∷ [])
-    ∷ (0x02 ∷ 0x1D ∷ 0 ∷ []) ∷ (0x02 ∷ 0x1D ∷ 0 ∷ 0 ∷ []) ∷ (0x02 ∷ 0x40 ∷ 0 ∷ 0 ∷ 0 ∷ 0 ∷ 0 ∷ 0 ∷ 0 ∷ 0 ∷ 0 ∷ [])
-    ∷ (0x02 ∷ 0x41 ∷ 0 ∷ 0 ∷ 0 ∷ 0 ∷ 0 ∷ 0 ∷ 0 ∷ []) ∷ (0x02 ∷ 0x42 ∷ 0 ∷ 0 ∷ []) ∷ (0x02 ∷ 0x43 ∷ 0 ∷ 0 ∷ 0 ∷ 0 ∷ 0 ∷ 0 ∷ 0 ∷ 0 ∷ [])
-    ∷ (0x02 ∷ 0x44 ∷ 0 ∷ 0 ∷ 0 ∷ 0 ∷ 0 ∷ 0 ∷ 0 ∷ 0 ∷ 0 ∷ []) ∷ (0x02 ∷ 0x45 ∷ 0 ∷ 0 ∷ []) ∷ (0x02 ∷ 0x00 ∷ 0 ∷ 0 ∷ 0 ∷ 0 ∷ [])
-    ∷ (0x02 ∷ 0x01 ∷ 0 ∷ 0 ∷ []) ∷ (0x02 ∷ 0x02 ∷ 0 ∷ 0 ∷ 0 ∷ []) ∷ (0x02 ∷ 0x0F ∷ 0 ∷ []) ∷ (0x02 ∷ 0x11 ∷ 0 ∷ 0 ∷ 0 ∷ 0 ∷ 0 ∷ 0 ∷ 0 ∷ 0 ∷ [])
-    ∷ (0x02 ∷ 0x15 ∷ 0 ∷ 0 ∷ 0 ∷ 0 ∷ 0 ∷ 0 ∷ []) ∷ (0x02 ∷ 0x16 ∷ 0 ∷ []) ∷ (0x02 ∷ 0x1A ∷ 0 ∷ []) ∷ []
+    ∷ (0x02 ∷ 0x2B ∷ 0 ∷ 0 ∷ 0 ∷ 0 ∷ 0 ∷ 0 ∷ 0 ∷ 0 ∷ 0 ∷ []) ∷ (0x02 ∷ 0x2D ∷ 0 ∷ 0 ∷ []) ∷ (0x02 ∷ 0x2E ∷ 0 ∷ 0 ∷ 0 ∷ 0 ∷ 0 ∷ 0 ∷ []) ∷ (0x02 ∷ 0x1D ∷ 0 ∷ [])
+    ∷ (0x02 ∷ 0x1D ∷ 0 ∷ 0 ∷ []) ∷ (0x02 ∷ 0x40 ∷ 0 ∷ 0 ∷ 0 ∷ 0 ∷ 0 ∷ 0 ∷ 0 ∷ 0 ∷ 0 ∷ []) ∷ (0x02 ∷ 0x41 ∷ 0 ∷ 0 ∷ 0 ∷ 0 ∷ 0 ∷ 0 ∷ 0 ∷ [])
+    ∷ (0x02 ∷ 0x42 ∷ 0 ∷ 0 ∷ []) ∷ (0x02 ∷ 0x43 ∷ 0 ∷ 0 ∷ 0 ∷ 0 ∷ 0 ∷ 0 ∷ 0 ∷ 0 ∷ []) ∷ (0x02 ∷ 0x44 ∷ 0 ∷ 0 ∷ 0 ∷ 0 ∷ 0 ∷ 0 ∷ 0 ∷ 0 ∷ 0 ∷ [])
+    ∷ (0x02 ∷ 0x45 ∷ 0 ∷ 0 ∷ []) ∷ (0x02 ∷ 0x00 ∷ 0 ∷ 0 ∷ 0 ∷ 0 ∷ []) ∷ (0x02 ∷ 0x01 ∷ 0 ∷ 0 ∷ []) ∷ (0x02 ∷ 0x02 ∷ 0 ∷ 0 ∷ 0 ∷ []) ∷ (0x02 ∷ 0x0F ∷ 0 ∷ [])
+    ∷ (0x02 ∷ 0x11 ∷ 0 ∷ 0 ∷ 0 ∷ 0 ∷ 0 ∷ 0 ∷ 0 ∷ 0 ∷ []) ∷ (0x02 ∷ 0x15 ∷ 0 ∷ 0 ∷ 0 ∷ 0 ∷ 0 ∷ 0 ∷ []) ∷ (0x02 ∷ 0x16 ∷ 0 ∷ []) ∷ (0x02 ∷ 0x1A ∷ 0 ∷ [])
+    -- end: front
+    ∷ []
 
 pub last : List ℕ
-last = 0x02 ∷ 0x1B ∷ 0 ∷ 0 ∷ 0 ∷ 0 ∷ 0 ∷ 0 ∷ 0 ∷ 0 ∷ []
+last =
+    -- from commands.json: last
+    0x02 ∷ 0x1B ∷ 0 ∷ 0 ∷ 0 ∷ 0 ∷ 0 ∷ 0 ∷ 0 ∷ 0
+    -- end: last
+    ∷ []
 
 -- ---- what the slots say
 
@@ -82,8 +88,14 @@ forms-slots fs e = single-forms fs (ap not (both-agree (λ j. held j fs) (λ j. 
 
 -- ---- the frames' slots and bytes
 
-slots : slotsIn (front ++ (last ∷ []))
-    ≡ 0 ∷ 1 ∷ 2 ∷ 3 ∷ 5 ∷ 6 ∷ 7 ∷ 8 ∷ 9 ∷ 10 ∷ 11 ∷ 12 ∷ 13 ∷ 14 ∷ 15 ∷ 16 ∷ 17 ∷ 18 ∷ 20 ∷ 22 ∷ 23 ∷ 24 ∷ 25 ∷ 26 ∷ 27 ∷ 28 ∷ []
+abbrev theirs : List ℕ
+theirs =
+    -- from commands.json: slots
+    0 ∷ 1 ∷ 2 ∷ 3 ∷ 5 ∷ 6 ∷ 7 ∷ 8 ∷ 9 ∷ 10 ∷ 11 ∷ 12 ∷ 13 ∷ 14 ∷ 15 ∷ 16 ∷ 17 ∷ 18 ∷ 20 ∷ 22 ∷ 23 ∷ 24 ∷ 25 ∷ 26 ∷ 27 ∷ 28
+    -- end: slots
+    ∷ []
+
+slots : slotsIn (front ++ (last ∷ [])) ≡ theirs
 unfolding front last slotOf slotFor decode sought answered judged known stray lacking find takes isIn lists rxBwCodes narrowOf narrowsOf tab tabFrom byteOf
     maskOf reads part mask read readTo
 slots = refl

@@ -1,4 +1,4 @@
-// The commands common to all modems, kinds 24 to 39: the enums, and the plain builders in the Rust's order. The responses are in rsp.rt.
+// The commands common to all modems, kinds from 24 on: the enums, and the plain builders in the Rust's order. The responses are in rsp.rt.
 ghost use mathlib.Core.Path.{_≡_};
 ghost use mathlib.Core.List.{[], _∷_};
 ghost use Rattle.table.specs.Table.{plain, yesNo};

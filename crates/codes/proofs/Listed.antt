@@ -16,11 +16,13 @@ use Rattle.table.specs.Codes.{lists, isIn, rxBwCodes}
 -- the source's words
 unfoldable pub words : List (List ℕ)
 words =
+    -- from commands.json: words
     (0x1FE0 ∷ 0 ∷ 0 ∷ 0 ∷ [])
     ∷ (0x101010101 ∷ 0 ∷ 0 ∷ 0 ∷ [])
     ∷ (0x1E1F ∷ 0 ∷ 0 ∷ 0 ∷ [])
     ∷ (0x10003 ∷ 0 ∷ 0 ∷ 0 ∷ [])
-    ∷ (0x000000FFFFBE0001 ∷ 0x000000FFFFFE0001 ∷ 0x000000FFFF010101 ∷ 0x800000FFDFBF0101 ∷ [])
+    ∷ (0xFFFFBE0001 ∷ 0xFFFFFE0001 ∷ 0xFFFF010101 ∷ 0x800000FFDFBF0101 ∷ [])
+    -- end: words
     ∷ []
 
 abbrev pub bitIn : ℕ → ℕ → Bool
@@ -40,21 +42,21 @@ is-same false false t = refl
 agrees : ℕ → ℕ → Bool
 agrees l v = same (bitIn l v) (isIn v (getD lists l []))
 
-everywhere : T (below (λ l. below (agrees l) 256) 5)
+everywhere : T (below (λ l. below (agrees l) 256) (length lists))
 unfolding below agrees same words isIn lists rxBwCodes
 everywhere = tt
 
-pub listed-is : (l v : ℕ) → l < 5 → v < 256 → bitIn l v ≡ isIn v (getD lists l [])
+pub listed-is : (l v : ℕ) → l < length lists → v < 256 → bitIn l v ≡ isIn v (getD lists l [])
 unfolding agrees
 listed-is l v h k =
-    is-same (bitIn l v) (isIn v (getD lists l [])) (below-at (agrees l) 256 v (below-at (λ (i : ℕ). below (agrees i) 256) 5 l everywhere h) k)
+    is-same (bitIn l v) (isIn v (getD lists l [])) (below-at (agrees l) 256 v (below-at (λ (i : ℕ). below (agrees i) 256) (length lists) l everywhere h) k)
 
--- no list has a code above 255, and there are five lists
+-- no list has a code above 255
 small : List ℕ → Bool
 small [] = true
 small (x ∷ xs) = ltb x 256 && small xs
 
-smalls : T (below (λ l. small (getD lists l [])) 5)
+smalls : T (below (λ l. small (getD lists l [])) (length lists))
 unfolding below small lists rxBwCodes
 smalls = tt
 
@@ -66,14 +68,14 @@ not-in v (x ∷ xs) t h =
     let d : v ≡ x → ⊥ = (λ e. omega arith) in
     ap (λ (b : Bool). cond b true (isIn v xs)) (ne-eqb v x d) ∙ not-in v xs (both-right (ltb x 256) (small xs) t) h
 
-pub listed-big : (l v : ℕ) → l < 5 → 256 ≤ v → isIn v (getD lists l []) ≡ false
-listed-big l v h k = not-in v (getD lists l []) (below-at (λ (i : ℕ). small (getD lists i [])) 5 l smalls h) k
+pub listed-big : (l v : ℕ) → l < length lists → 256 ≤ v → isIn v (getD lists l []) ≡ false
+listed-big l v h k = not-in v (getD lists l []) (below-at (λ (i : ℕ). small (getD lists i [])) (length lists) l smalls h) k
 
 none-past : {A : Type 0} (xs : List A) (d : A) (k : ℕ) → length xs ≤ k → getD xs k d ≡ d
 none-past [] d k h = refl
 none-past (x ∷ xs) d zero h = absurd (not-suc-le-zero h)
 none-past (x ∷ xs) d (suc k) h = none-past xs d k (le-of-suc-le-suc h)
 
-pub listed-past : (l v : ℕ) → 5 ≤ l → isIn v (getD lists l []) ≡ false
-unfolding isIn lists
+pub listed-past : (l v : ℕ) → length lists ≤ l → isIn v (getD lists l []) ≡ false
+unfolding isIn
 listed-past l v h = ap (isIn v) (none-past lists [] l h)

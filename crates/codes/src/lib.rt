@@ -8,6 +8,7 @@ ghost use Rattle.table.specs.Codes.{lists, isIn, takes};
 ghost use Rattle.table.specs.Number.{codesOf};
 ghost use Rattle.codes.specs.Allowed.{fits, allows, accepts};
 
+// from commands.json: lists
 // The codes of `RxBw`, 64 to a word: bit v % 64 of word v / 64 is set where the enum has the code v.
 const RX_BW_0: u64 = 0x0000_00FF_FFBE_0001;
 
@@ -17,14 +18,17 @@ const RX_BW_128: u64 = 0x0000_00FF_FF01_0101;
 
 const RX_BW_192: u64 = 0x8000_00FF_DFBF_0101;
 
-// The lists of codes by number, written the same way: `Sf`, `PblLenDetect`, `Crc`, the LoRa `ExitMode`, `RxBw`.
-const LISTS: [[u64; 4]; 5] = [
+// The lists of codes by number, 64 to a word: `Sf`, `PblLenDetect`, `Crc`, `LoraCadExitMode`, `RxBw`.
+const COUNT: usize = 5;
+
+const LISTS: [[u64; 4]; COUNT] = [
     [0x1FE0, 0, 0, 0],
     [0x1_0101_0101, 0, 0, 0],
     [0x1E1F, 0, 0, 0],
     [0x1_0003, 0, 0, 0],
     [RX_BW_0, RX_BW_64, RX_BW_128, RX_BW_192],
 ];
+// end: lists
 
 fn u32_as_usize(x: u32) -> usize
     ensures { λ r. ⌜ r ≡ x ⌝ }
@@ -42,7 +46,7 @@ fn u32_as_u64(x: u32) -> u64
 fn is_listed(list: usize, v: u64) -> bool
     ensures { λ r. ⌜ r ≡ isIn v (getD lists list []) ⌝ }
 {
-    if list < 5 {
+    if list < COUNT {
         if v < 256 {
             let word = LISTS[list][(v / 64) as usize];
             return (word >> (v % 64)) % 2 == 1;

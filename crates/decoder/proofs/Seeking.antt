@@ -3,7 +3,7 @@ use mathlib.Core.Path.{_≡_, refl, sym, ap, ap₂, _∙_, subst}
 use mathlib.Core.Logic.{⊎-elim}
 use mathlib.Core.Bool.{Bool, true, false, cond, _&&_}
 use mathlib.Core.List.{List, [], _∷_}
-use Prim.Native.Nat.{ℕ, zero, suc, _+_, _-_, _*_, _/_, _%_, _≤_, _<_, zero-le, suc-le-suc}
+use Prim.Native.Nat.{ℕ, zero, suc, _+_, _-_, _/_, _%_, _≤_, _<_, zero-le, suc-le-suc}
 use native.Mathlib.Nat.{add-suc, suc-add}
 use native.Mathlib.Omega.{arith}
 use borrow.Author.Tests.{eq-eqb, ne-eqb, lt-ltb, le-ltb}
@@ -11,18 +11,21 @@ use lib.Dec.{T, eqb, ltb, eqb→eq}
 use lib.ListN.{length, getD}
 use Rattle.frame.proofs.OneField.{le-or-lt}
 use Rattle.table.specs.Table.{kinds, rows, opOf, lenOf}
+use Rattle.table.specs.Heads.{lengthFor, headOf, headFor}
 use Rattle.table.specs.Laid.{find}
 use Rattle.table.proofs.Below.{below, below-at}
+use Rattle.table.proofs.Heads.{head-length, head-next}
 use Rattle.table.proofs.Rows.{count, row-laid, row-found, found-row}
 use Rattle.decoder.specs.declared.Sought.{Sought}
 use Rattle.decoder.specs.declared.Sought.the-variants.{Row, WrongLength, UnknownOpcode}
-use Rattle.decoder.specs.Seats.{lengthFor, seatFrom, seatOf}
+use Rattle.decoder.specs.Seats.{seatFrom, seatOf}
 use Rattle.decoder.specs.Decoding.{known, sought}
 
 -- what the code makes of a seat
 unfoldable pub seated : ℕ → ℕ → Sought
 seated s l =
-    cond (eqb (s / 16 % 16) 0) UnknownOpcode (cond (eqb (s / 16 % 16) l) (Row (s / 256)) (cond (eqb (s % 16) l) (Row (s / 256 + 1)) WrongLength))
+    cond (eqb (s / 65536 % 16) 0) UnknownOpcode
+    (cond (eqb (s / 65536 % 16) l) (Row (s / 1048576)) (cond (eqb (s / 4096 % 16) l) (Row (s / 1048576 + 1)) WrongLength))
 
 -- ---- opcodes of no row
 
@@ -33,7 +36,7 @@ module _ (o : ℕ) where
   seat-unknown i (r ∷ rs) e = go (eqb (opOf r) o) e (seat-unknown (suc i) rs)
     where
       go : (b : Bool) → cond b true (known rs o) ≡ false → (known rs o ≡ false → seatFrom (suc i) rs o ≡ 0)
-          → cond b (i * 256 + lenOf r * 16 + lengthFor o (getD rs 0 [])) (seatFrom (suc i) rs o) ≡ 0
+          → cond b (headOf i r (getD rs 0 [])) (seatFrom (suc i) rs o) ≡ 0
       go true z ih = absurd (subst T z tt)
       go false z ih = ih z
 
@@ -96,7 +99,7 @@ record First (i : ℕ) (rs : List (List ℕ)) (o : ℕ) : Type 0 where
   at : ℕ
   row : at < length rs
   has : opOf (getD rs at []) ≡ o
-  seat : seatFrom i rs o ≡ (i + at) * 256 + lenOf (getD rs at []) * 16 + lengthFor o (getD rs (suc at) [])
+  seat : seatFrom i rs o ≡ headOf (i + at) (getD rs at []) (getD rs (suc at) [])
 
 first : (i : ℕ) (rs : List (List ℕ)) (o : ℕ) → known rs o ≡ true → First i rs o
 unfolding known seatFrom
@@ -109,16 +112,16 @@ first i (r ∷ rs) o e = go (eqb (opOf r) o) refl e (first (suc i) rs o)
           at = 0;
           row = suc-le-suc zero-le;
           has = eqb→eq (opOf r) o (subst T (sym q) tt);
-          seat = ap (λ (b : Bool). cond b (i * 256 + lenOf r * 16 + lengthFor o (getD rs 0 [])) (seatFrom (suc i) rs o)) q
-              ∙ ap (λ (k : ℕ). k * 256 + lenOf r * 16 + lengthFor o (getD rs 0 [])) e;
+          seat = ap (λ (b : Bool). cond b (headOf i r (getD rs 0 [])) (seatFrom (suc i) rs o)) q
+              ∙ ap (λ (k : ℕ). headOf k r (getD rs 0 [])) e;
         }
     go false q z ih =
         let f : First (suc i) rs o = ih z in record {
           at = suc (f .at);
           row = suc-le-suc (f .row);
           has = f .has;
-          seat = ap (λ (b : Bool). cond b (i * 256 + lenOf r * 16 + lengthFor o (getD rs 0 [])) (seatFrom (suc i) rs o)) q ∙ f .seat
-              ∙ ap (λ (k : ℕ). k * 256 + lenOf (getD rs (f .at) []) * 16 + lengthFor o (getD rs (suc (f .at)) []))
+          seat = ap (λ (b : Bool). cond b (headOf i r (getD rs 0 [])) (seatFrom (suc i) rs o)) q ∙ f .seat
+              ∙ ap (λ (k : ℕ). headOf k (getD rs (f .at) []) (getD rs (suc (f .at)) []))
               (suc-add i (f .at) ∙ sym (add-suc i (f .at)));
         }
 
@@ -142,6 +145,9 @@ unfolding below leads isRow seated seatFrom
 everywhere = tt
 
 -- ---- every opcode, and every length from 2 on
+
+from-zero : (k : ℕ) → 0 + k ≡ k
+from-zero k = omega arith
 
 module _ (o l : ℕ) (two : 2 ≤ l) where
   row-seated : find rows o l < kinds → seated (seatOf o) l ≡ Row (find rows o l)
@@ -187,9 +193,10 @@ module _ (o l : ℕ) (two : 2 ≤ l) where
         let a : ℕ = lenOf (getD rows (f .at) []) in
         let b : ℕ = lengthFor o (getD rows (suc (f .at)) []) in
         let s : ℕ = seatOf o in
-        let e : s ≡ (0 + f .at) * 256 + a * 16 + b = f .seat in
-        let p : s / 16 % 16 ≡ a = omega (arith, r .most, n .0) in
-        let q : s % 16 ≡ b = omega (arith, n .0) in
+        let e : s ≡ headFor (f .at) = f .seat ∙ ap (λ (k : ℕ). headOf k (getD rows (f .at) []) (getD rows (suc (f .at)) [])) (from-zero (f .at)) in
+        let p : s / 65536 % 16 ≡ a = ap (λ (x : ℕ). x / 65536 % 16) e ∙ head-length (f .at) h in
+        let q : s / 4096 % 16 ≡ b =
+        ap (λ (x : ℕ). x / 4096 % 16) e ∙ head-next (f .at) h ∙ ap (λ (x : ℕ). lengthFor x (getD rows (suc (f .at)) [])) (f .has) in
         let some : a ≡ 0 → ⊥ = (λ z. omega (arith, r .least)) in
         simp (p, q, ne-eqb a 0 some, ne-eqb a l (no-row (f .at) h (f .has)), ne-eqb b l (n .1))
 
@@ -219,20 +226,20 @@ module _ (o l : ℕ) (two : 2 ≤ l) where
     whole : seated s l ≡ sought o l
     whole = ap (λ (x : ℕ). seated x l) es ∙ seat-is
 
-    pub seat-empty : s / 16 % 16 ≡ 0 → UnknownOpcode ≡ sought o l
+    pub seat-empty : s / 65536 % 16 ≡ 0 → UnknownOpcode ≡ sought o l
     unfolding seated
-    seat-empty e = sym (simp (eq-eqb (s / 16 % 16) 0 e)) ∙ whole
+    seat-empty e = sym (simp (eq-eqb (s / 65536 % 16) 0 e)) ∙ whole
 
-    module _ (some : s / 16 % 16 ≡ 0 → ⊥) where
-      pub seat-first : s / 16 % 16 ≡ l → Row (s / 256) ≡ sought o l
+    module _ (some : s / 65536 % 16 ≡ 0 → ⊥) where
+      pub seat-first : s / 65536 % 16 ≡ l → Row (s / 1048576) ≡ sought o l
       unfolding seated
-      seat-first e = sym (simp (ne-eqb (s / 16 % 16) 0 some, eq-eqb (s / 16 % 16) l e)) ∙ whole
+      seat-first e = sym (simp (ne-eqb (s / 65536 % 16) 0 some, eq-eqb (s / 65536 % 16) l e)) ∙ whole
 
-      module _ (other : s / 16 % 16 ≡ l → ⊥) where
-        pub seat-second : s % 16 ≡ l → Row (s / 256 + 1) ≡ sought o l
+      module _ (other : s / 65536 % 16 ≡ l → ⊥) where
+        pub seat-second : s / 4096 % 16 ≡ l → Row (s / 1048576 + 1) ≡ sought o l
         unfolding seated
-        seat-second e = sym (simp (ne-eqb (s / 16 % 16) 0 some, ne-eqb (s / 16 % 16) l other, eq-eqb (s % 16) l e)) ∙ whole
+        seat-second e = sym (simp (ne-eqb (s / 65536 % 16) 0 some, ne-eqb (s / 65536 % 16) l other, eq-eqb (s / 4096 % 16) l e)) ∙ whole
 
-        pub seat-other : (s % 16 ≡ l → ⊥) → WrongLength ≡ sought o l
+        pub seat-other : (s / 4096 % 16 ≡ l → ⊥) → WrongLength ≡ sought o l
         unfolding seated
-        seat-other d = sym (simp (ne-eqb (s / 16 % 16) 0 some, ne-eqb (s / 16 % 16) l other, ne-eqb (s % 16) l d)) ∙ whole
+        seat-other d = sym (simp (ne-eqb (s / 65536 % 16) 0 some, ne-eqb (s / 65536 % 16) l other, ne-eqb (s / 4096 % 16) l d)) ∙ whole

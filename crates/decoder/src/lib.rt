@@ -106,6 +106,7 @@ fn held_at(i: usize) -> [u64; 2]
     ensures { λ r. ⌜ r ≡ heldOf (rowAt i) ⌝ }
 {
     match i {
+        // from commands.json: held_at
         0 => [0, 0xFFFF_FFFF],
         1 => [0, 0xFFFF_FFFF_FF07],
         2 => [0, 0xFFFF_FF01],
@@ -145,6 +146,7 @@ fn held_at(i: usize) -> [u64; 2]
         36 => [0, 0xFFFF_FFFF_FFFF],
         37 => [0, 0x00FF_FF0F],
         38.. => [0xFFFF_FFFF_FFFF_03FF, 0xFFFF_FFFF_03FF_FFFF],
+        // end: held_at
     }
 }
 
@@ -312,6 +314,13 @@ fn refused(why: Refusal) -> Decoded
     }
 }
 
+// The number of fields of the row at a place.
+fn count_at(i: usize) -> usize
+    ensures { λ r. ⌜ r ≡ countOf (rowAt i) ⌝ }
+{
+    u32_as_usize(table::head_at(i) / 256 % 16)
+}
+
 // What a frame with the opcode and the length of the row at a place says. Only a refused one is gone over again, for the place.
 fn judge(i: usize, frame: &[u8]) -> Decoded
     requires { ⌜ (i < kinds) × (lenOf (rowAt i) ≡ length (now frame)) ⌝ }
@@ -321,7 +330,7 @@ fn judge(i: usize, frame: &[u8]) -> Decoded
     if rows::read_row(i, frame, &mut args) {
         return Decoded {
             answer: Answer::Kind((i + 1) as u64),
-            count: rows::count_at(i),
+            count: count_at(i),
             args,
         };
     }
@@ -346,14 +355,14 @@ fn seek(op: u64, len: usize) -> Sought
     ensures { λ r. ⌜ r ≡ sought op len ⌝ }
 {
     let seat = u32_as_usize(seats::seat_of(op));
-    if seat / 16 % 16 == 0 {
+    if seat / 0x1_0000 % 16 == 0 {
         return Sought::UnknownOpcode;
     }
-    if seat / 16 % 16 == len {
-        return Sought::Row(seat / 256);
+    if seat / 0x1_0000 % 16 == len {
+        return Sought::Row(seat / 0x10_0000);
     }
-    if seat % 16 == len {
-        return Sought::Row(seat / 256 + 1);
+    if seat / 0x1000 % 16 == len {
+        return Sought::Row(seat / 0x10_0000 + 1);
     }
     Sought::WrongLength
 }

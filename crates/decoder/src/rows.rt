@@ -1,10 +1,11 @@
-// The fields of each row, an arm for each. Length and fields are constants there, so that what reads a field is a shift and a cut by numbers
-// that the compiler knows. A place, a length or a field that is not the row's is refused by the proof. A short frame has no first word, and
-// most rows have no field of eight bytes: both are then 0.
+// Made from docs/commands.json by docs/make_reference.py: the fields of each row, an arm for each.
+// Length and fields are constants there, so that what reads a field is a shift and a cut by numbers that the compiler knows. A place, a
+// length or a field that is not the row's is refused by the proof. A short frame has no first word, and most rows have no field of
+// eight bytes: both are then 0.
 ghost use mathlib.Core.Path.{_≡_};
-ghost use Prim.Native.Nat.{_+_, _<_};
+ghost use Prim.Native.Nat.{_<_, _≤_};
 ghost use lib.ListN.{length};
-ghost use Rattle.table.specs.Table.{kinds, rowAt, lenOf, countOf};
+ghost use Rattle.table.specs.Table.{kinds, rowAt, lenOf};
 ghost use Rattle.decoder.specs.Words.{goodFrame, nineIn};
 use crate::first_of;
 use crate::last_of;
@@ -14,153 +15,23 @@ use table::fields;
 // No field.
 const NONE: u32 = 0;
 
-const COUNT_1: usize = table::ROW_1[3] as usize;
-
-const COUNT_2: usize = table::ROW_2[3] as usize;
-
-const COUNT_3: usize = table::ROW_3[3] as usize;
-
-const COUNT_4: usize = table::ROW_4[3] as usize;
-
-const COUNT_5: usize = table::ROW_5[3] as usize;
-
-const COUNT_6: usize = table::ROW_6[3] as usize;
-
-const COUNT_7: usize = table::ROW_7[3] as usize;
-
-const COUNT_8: usize = table::ROW_8[3] as usize;
-
-const COUNT_9: usize = table::ROW_9[3] as usize;
-
-const COUNT_10: usize = table::ROW_10[3] as usize;
-
-const COUNT_11: usize = table::ROW_11[3] as usize;
-
-const COUNT_12: usize = table::ROW_12[3] as usize;
-
-const COUNT_13: usize = table::ROW_13[3] as usize;
-
-const COUNT_14: usize = table::ROW_14[3] as usize;
-
-const COUNT_15: usize = table::ROW_15[3] as usize;
-
-const COUNT_16: usize = table::ROW_16[3] as usize;
-
-const COUNT_17: usize = table::ROW_17[3] as usize;
-
-const COUNT_18: usize = table::ROW_18[3] as usize;
-
-const COUNT_19: usize = table::ROW_19[3] as usize;
-
-const COUNT_20: usize = table::ROW_20[3] as usize;
-
-const COUNT_21: usize = table::ROW_21[3] as usize;
-
-const COUNT_22: usize = table::ROW_22[3] as usize;
-
-const COUNT_23: usize = table::ROW_23[3] as usize;
-
-const COUNT_24: usize = table::ROW_24[3] as usize;
-
-const COUNT_25: usize = table::ROW_25[3] as usize;
-
-const COUNT_26: usize = table::ROW_26[3] as usize;
-
-const COUNT_27: usize = table::ROW_27[3] as usize;
-
-const COUNT_28: usize = table::ROW_28[3] as usize;
-
-const COUNT_29: usize = table::ROW_29[3] as usize;
-
-const COUNT_30: usize = table::ROW_30[3] as usize;
-
-const COUNT_31: usize = table::ROW_31[3] as usize;
-
-const COUNT_32: usize = table::ROW_32[3] as usize;
-
-const COUNT_33: usize = table::ROW_33[3] as usize;
-
-const COUNT_34: usize = table::ROW_34[3] as usize;
-
-const COUNT_35: usize = table::ROW_35[3] as usize;
-
-const COUNT_36: usize = table::ROW_36[3] as usize;
-
-const COUNT_37: usize = table::ROW_37[3] as usize;
-
-const COUNT_38: usize = table::ROW_38[3] as usize;
-
-const COUNT_39: usize = table::ROW_39[3] as usize;
-
-// The number of fields of the row at a place.
-pub(crate) fn count_at(i: usize) -> usize
-    ensures { λ r. ⌜ r ≡ countOf (rowAt i) ⌝ }
-{
-    match i {
-        0 => COUNT_1,
-        1 => COUNT_2,
-        2 => COUNT_3,
-        3 => COUNT_4,
-        4 => COUNT_5,
-        5 => COUNT_6,
-        6 => COUNT_7,
-        7 => COUNT_8,
-        8 => COUNT_9,
-        9 => COUNT_10,
-        10 => COUNT_11,
-        11 => COUNT_12,
-        12 => COUNT_13,
-        13 => COUNT_14,
-        14 => COUNT_15,
-        15 => COUNT_16,
-        16 => COUNT_17,
-        17 => COUNT_18,
-        18 => COUNT_19,
-        19 => COUNT_20,
-        20 => COUNT_21,
-        21 => COUNT_22,
-        22 => COUNT_23,
-        23 => COUNT_24,
-        24 => COUNT_25,
-        25 => COUNT_26,
-        26 => COUNT_27,
-        27 => COUNT_28,
-        28 => COUNT_29,
-        29 => COUNT_30,
-        30 => COUNT_31,
-        31 => COUNT_32,
-        32 => COUNT_33,
-        33 => COUNT_34,
-        34 => COUNT_35,
-        35 => COUNT_36,
-        36 => COUNT_37,
-        37 => COUNT_38,
-        38.. => COUNT_39,
-    }
-}
-
-// Where the rows of the second and the third file of commands begin.
-const FIRST_FSK: usize = 15;
-
-const FIRST_COMMON: usize = 23;
-
 // The arguments of a frame with the length of the row at a place; whether it has no stray bit, and each of them is taken.
 pub(crate) fn read_row(i: usize, frame: &[u8], args: &mut [u64; 9]) -> bool
     requires { ⌜ (i < kinds) × (lenOf (rowAt i) ≡ length (now frame)) ⌝ }
     ensures { λ r. ⌜ (r ≡ goodFrame (rowAt i) (now (frame .entry))) × (now (args .exit) ≡ nineIn (rowAt i) (now (frame .entry))) ⌝ }
 {
-    if i < FIRST_FSK {
+    if i < 15 {
         return read_lora(i, frame, args);
     }
-    if i < FIRST_COMMON {
-        return read_fsk(i - FIRST_FSK, frame, args);
+    if i < 23 {
+        return read_fsk(i, frame, args);
     }
-    read_common(i - FIRST_COMMON, frame, args)
+    read_common(i, frame, args)
 }
 
-// The same for the i-th row of cmd_lora.
+// The same for a row of cmd_lora.
 fn read_lora(i: usize, frame: &[u8], args: &mut [u64; 9]) -> bool
-    requires { ⌜ (i < 15) × (lenOf (rowAt i) ≡ length (now frame)) ⌝ }
+    requires { ⌜ (0 ≤ i) × (i < 15) × (lenOf (rowAt i) ≡ length (now frame)) ⌝ }
     ensures { λ r. ⌜ (r ≡ goodFrame (rowAt i) (now (frame .entry))) × (now (args .exit) ≡ nineIn (rowAt i) (now (frame .entry))) ⌝ }
 {
     match i {
@@ -437,13 +308,13 @@ fn read_lora(i: usize, frame: &[u8], args: &mut [u64; 9]) -> bool
     }
 }
 
-// The same for the i-th row of cmd_fsk.
+// The same for a row of cmd_fsk.
 fn read_fsk(i: usize, frame: &[u8], args: &mut [u64; 9]) -> bool
-    requires { ⌜ (i < 8) × (lenOf (rowAt (15 + i)) ≡ length (now frame)) ⌝ }
-    ensures { λ r. ⌜ (r ≡ goodFrame (rowAt (15 + i)) (now (frame .entry))) × (now (args .exit) ≡ nineIn (rowAt (15 + i)) (now (frame .entry))) ⌝ }
+    requires { ⌜ (15 ≤ i) × (i < 23) × (lenOf (rowAt i) ≡ length (now frame)) ⌝ }
+    ensures { λ r. ⌜ (r ≡ goodFrame (rowAt i) (now (frame .entry))) × (now (args .exit) ≡ nineIn (rowAt i) (now (frame .entry))) ⌝ }
 {
     match i {
-        0 => read_fields(
+        15 => read_fields(
             15,
             frame,
             first_of(frame, 11),
@@ -461,7 +332,7 @@ fn read_fsk(i: usize, frame: &[u8], args: &mut [u64; 9]) -> bool
             NONE,
             args,
         ),
-        1 => read_fields(
+        16 => read_fields(
             16,
             frame,
             first_of(frame, 9),
@@ -479,7 +350,7 @@ fn read_fsk(i: usize, frame: &[u8], args: &mut [u64; 9]) -> bool
             fields::K17_DC_FREE,
             args,
         ),
-        2 => read_fields(
+        17 => read_fields(
             17,
             frame,
             0,
@@ -497,7 +368,7 @@ fn read_fsk(i: usize, frame: &[u8], args: &mut [u64; 9]) -> bool
             NONE,
             args,
         ),
-        3 => read_fields(
+        18 => read_fields(
             18,
             frame,
             first_of(frame, 10),
@@ -515,7 +386,7 @@ fn read_fsk(i: usize, frame: &[u8], args: &mut [u64; 9]) -> bool
             NONE,
             args,
         ),
-        4 => read_fields(
+        19 => read_fields(
             19,
             frame,
             first_of(frame, 11),
@@ -533,7 +404,7 @@ fn read_fsk(i: usize, frame: &[u8], args: &mut [u64; 9]) -> bool
             NONE,
             args,
         ),
-        5 => read_fields(
+        20 => read_fields(
             20,
             frame,
             0,
@@ -551,7 +422,7 @@ fn read_fsk(i: usize, frame: &[u8], args: &mut [u64; 9]) -> bool
             NONE,
             args,
         ),
-        6 => read_fields(
+        21 => read_fields(
             21,
             frame,
             0,
@@ -590,13 +461,13 @@ fn read_fsk(i: usize, frame: &[u8], args: &mut [u64; 9]) -> bool
     }
 }
 
-// The same for the i-th row of cmd_common.
+// The same for a row of cmd_common.
 fn read_common(i: usize, frame: &[u8], args: &mut [u64; 9]) -> bool
-    requires { ⌜ (i < 16) × (lenOf (rowAt (23 + i)) ≡ length (now frame)) ⌝ }
-    ensures { λ r. ⌜ (r ≡ goodFrame (rowAt (23 + i)) (now (frame .entry))) × (now (args .exit) ≡ nineIn (rowAt (23 + i)) (now (frame .entry))) ⌝ }
+    requires { ⌜ (23 ≤ i) × (i < 39) × (lenOf (rowAt i) ≡ length (now frame)) ⌝ }
+    ensures { λ r. ⌜ (r ≡ goodFrame (rowAt i) (now (frame .entry))) × (now (args .exit) ≡ nineIn (rowAt i) (now (frame .entry))) ⌝ }
 {
     match i {
-        0 => read_fields(
+        23 => read_fields(
             23,
             frame,
             0,
@@ -614,7 +485,7 @@ fn read_common(i: usize, frame: &[u8], args: &mut [u64; 9]) -> bool
             NONE,
             args,
         ),
-        1 => read_fields(
+        24 => read_fields(
             24,
             frame,
             0,
@@ -632,7 +503,7 @@ fn read_common(i: usize, frame: &[u8], args: &mut [u64; 9]) -> bool
             NONE,
             args,
         ),
-        2 => read_fields(
+        25 => read_fields(
             25,
             frame,
             0,
@@ -650,7 +521,7 @@ fn read_common(i: usize, frame: &[u8], args: &mut [u64; 9]) -> bool
             NONE,
             args,
         ),
-        3 => read_fields(
+        26 => read_fields(
             26,
             frame,
             0,
@@ -668,7 +539,7 @@ fn read_common(i: usize, frame: &[u8], args: &mut [u64; 9]) -> bool
             NONE,
             args,
         ),
-        4 => read_fields(
+        27 => read_fields(
             27,
             frame,
             0,
@@ -686,7 +557,7 @@ fn read_common(i: usize, frame: &[u8], args: &mut [u64; 9]) -> bool
             NONE,
             args,
         ),
-        5 => read_fields(
+        28 => read_fields(
             28,
             frame,
             0,
@@ -704,7 +575,7 @@ fn read_common(i: usize, frame: &[u8], args: &mut [u64; 9]) -> bool
             NONE,
             args,
         ),
-        6 => read_fields(
+        29 => read_fields(
             29,
             frame,
             0,
@@ -722,7 +593,7 @@ fn read_common(i: usize, frame: &[u8], args: &mut [u64; 9]) -> bool
             NONE,
             args,
         ),
-        7 => read_fields(
+        30 => read_fields(
             30,
             frame,
             0,
@@ -740,7 +611,7 @@ fn read_common(i: usize, frame: &[u8], args: &mut [u64; 9]) -> bool
             NONE,
             args,
         ),
-        8 => read_fields(
+        31 => read_fields(
             31,
             frame,
             first_of(frame, 9),
@@ -758,7 +629,7 @@ fn read_common(i: usize, frame: &[u8], args: &mut [u64; 9]) -> bool
             NONE,
             args,
         ),
-        9 => read_fields(
+        32 => read_fields(
             32,
             frame,
             first_of(frame, 10),
@@ -776,7 +647,7 @@ fn read_common(i: usize, frame: &[u8], args: &mut [u64; 9]) -> bool
             NONE,
             args,
         ),
-        10 => read_fields(
+        33 => read_fields(
             33,
             frame,
             0,
@@ -794,7 +665,7 @@ fn read_common(i: usize, frame: &[u8], args: &mut [u64; 9]) -> bool
             NONE,
             args,
         ),
-        11 => read_fields(
+        34 => read_fields(
             34,
             frame,
             0,
@@ -812,7 +683,7 @@ fn read_common(i: usize, frame: &[u8], args: &mut [u64; 9]) -> bool
             NONE,
             args,
         ),
-        12 => read_fields(
+        35 => read_fields(
             35,
             frame,
             0,
@@ -830,7 +701,7 @@ fn read_common(i: usize, frame: &[u8], args: &mut [u64; 9]) -> bool
             NONE,
             args,
         ),
-        13 => read_fields(
+        36 => read_fields(
             36,
             frame,
             0,
@@ -848,7 +719,7 @@ fn read_common(i: usize, frame: &[u8], args: &mut [u64; 9]) -> bool
             NONE,
             args,
         ),
-        14 => read_fields(
+        37 => read_fields(
             37,
             frame,
             0,

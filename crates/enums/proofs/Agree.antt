@@ -15,7 +15,8 @@ use Rattle.table.specs.Number.{plainOf, isCode, codesOf}
 use Rattle.table.specs.Codes.{lists, rxBwCodes, isIn, takes}
 use Rattle.table.specs.Table.{rows, rowOf, numbersOf}
 use Rattle.codes.specs.Allowed.{fits}
-use Rattle.enums.specs.Values.{Enum, Sort, code, number, codesIn, sorts, sortsOf}
+use Rattle.enums.specs.Enums.{Enum}
+use Rattle.enums.specs.Values.{Sort, code, number, codesIn, sorts, sortsOf}
 
 -- ---- the claim
 

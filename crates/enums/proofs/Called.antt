@@ -14,7 +14,8 @@ use Rattle.codes.specs.Allowed.{fits, accepts}
 use Rattle.builder.specs.Building.{makes, plainBy}
 use Rattle.builder.proofs.Taking.{Taken, plain-takes}
 use Rattle.enums.specs.Values as of
-use Rattle.enums.specs.Values.{Enum, Sort, Value, codeOf, codesIn, Args, numbersIn, sortsOf}
+use Rattle.enums.specs.Enums.{Enum, Value, codeOf}
+use Rattle.enums.specs.Values.{Sort, codesIn, Args, numbersIn, sortsOf}
 use Rattle.enums.proofs.Listed.{listed}
 use Rattle.enums.proofs.Agree.{agreesWith, fieldsAgree, field-of, told, kind-agrees}
 

@@ -1,9 +1,11 @@
--- No value is missing from the list of its enum: the code of every value is among the codes. Assumes nothing.
-use mathlib.Core.Bool.{Bool, true, false}
+-- Made from docs/commands.json by docs/make_reference.py: no value is missing from the list of its enum, since the code of every
+-- value is among the codes. Assumes nothing.
+use mathlib.Core.Bool.{true, false}
 use lib.Dec.{T}
 use Rattle.table.specs.Codes.{isIn}
-use Rattle.enums.specs.Values.{Enum, Value, codeOf, codesIn}
-use Rattle.enums.specs.Values as of
+use Rattle.enums.specs.Enums.{Enum, Value, codeOf}
+use Rattle.enums.specs.Enums as of
+use Rattle.enums.specs.Values.{codesIn}
 use Rattle.cmd_lora.specs.declared.Sf.the-variants as SfV
 use Rattle.cmd_lora.specs.declared.LoraBw.the-variants as LoraBwV
 use Rattle.cmd_lora.specs.declared.LoraCr.the-variants as LoraCrV
@@ -117,113 +119,113 @@ listed of.timingSyncMode x = elim x as (λ y. T (isIn (codeOf of.timingSyncMode 
 listed of.pulseShape x = elim x as (λ y. T (isIn (codeOf of.pulseShape y) (codesIn of.pulseShape))) [
   | PulseShapeV.None ↦ tt
   | PulseShapeV.Custom ↦ tt
-  | PulseShapeV.Bt2p0 ↦ tt
-  | PulseShapeV.Rrc0p4 ↦ tt
   | PulseShapeV.Bt0p3 ↦ tt
   | PulseShapeV.Bt0p5 ↦ tt
   | PulseShapeV.Bt0p7 ↦ tt
   | PulseShapeV.Bt1p0 ↦ tt
+  | PulseShapeV.Bt2p0 ↦ tt
   | PulseShapeV.Rc0p3 ↦ tt
   | PulseShapeV.Rc0p5 ↦ tt
   | PulseShapeV.Rc0p7 ↦ tt
   | PulseShapeV.Rc1p0 ↦ tt
   | PulseShapeV.Rrc0p3 ↦ tt
+  | PulseShapeV.Rrc0p4 ↦ tt
   | PulseShapeV.Rrc0p5 ↦ tt
   | PulseShapeV.Rrc0p7 ↦ tt
   | PulseShapeV.Rrc1p0 ↦ tt
 ]
 listed of.rxBw x = elim x as (λ y. T (isIn (codeOf of.rxBw y) (codesIn of.rxBw))) [
-  | RxBwV.Bw3076 ↦ tt
-  | RxBwV.Bw512 ↦ tt
-  | RxBwV.Bw256 ↦ tt
-  | RxBwV.Bw128 ↦ tt
-  | RxBwV.Bw64 ↦ tt
-  | RxBwV.Bw32 ↦ tt
-  | RxBwV.Bw8 ↦ tt
-  | RxBwV.Bw769 ↦ tt
-  | RxBwV.Bw384 ↦ tt
-  | RxBwV.Bw192 ↦ tt
-  | RxBwV.Bw96 ↦ tt
-  | RxBwV.Bw48 ↦ tt
-  | RxBwV.Bw24 ↦ tt
-  | RxBwV.Bw12 ↦ tt
-  | RxBwV.Bw6 ↦ tt
-  | RxBwV.Bw615 ↦ tt
-  | RxBwV.Bw307 ↦ tt
-  | RxBwV.Bw153 ↦ tt
-  | RxBwV.Bw76 ↦ tt
-  | RxBwV.Bw38 ↦ tt
-  | RxBwV.Bw19 ↦ tt
-  | RxBwV.Bw9p6 ↦ tt
-  | RxBwV.Bw4p8 ↦ tt
-  | RxBwV.Bw2857 ↦ tt
-  | RxBwV.Bw476 ↦ tt
-  | RxBwV.Bw238 ↦ tt
-  | RxBwV.Bw119 ↦ tt
-  | RxBwV.Bw59 ↦ tt
-  | RxBwV.Bw29 ↦ tt
-  | RxBwV.Bw14 ↦ tt
-  | RxBwV.Bw7p4 ↦ tt
-  | RxBwV.Bw714 ↦ tt
-  | RxBwV.Bw357 ↦ tt
-  | RxBwV.Bw178 ↦ tt
-  | RxBwV.Bw89 ↦ tt
-  | RxBwV.Bw44 ↦ tt
-  | RxBwV.Bw22 ↦ tt
-  | RxBwV.Bw11 ↦ tt
-  | RxBwV.Bw5p6 ↦ tt
-  | RxBwV.Bw571 ↦ tt
-  | RxBwV.Bw285 ↦ tt
-  | RxBwV.Bw142 ↦ tt
-  | RxBwV.Bw71 ↦ tt
-  | RxBwV.Bw35 ↦ tt
-  | RxBwV.Bw17 ↦ tt
-  | RxBwV.Bw8p9 ↦ tt
-  | RxBwV.Bw4p5 ↦ tt
-  | RxBwV.Bw2666 ↦ tt
-  | RxBwV.Bw1333 ↦ tt
-  | RxBwV.Bw888 ↦ tt
-  | RxBwV.Bw666 ↦ tt
-  | RxBwV.Bw333 ↦ tt
-  | RxBwV.Bw166 ↦ tt
-  | RxBwV.Bw83 ↦ tt
-  | RxBwV.Bw41 ↦ tt
-  | RxBwV.Bw20 ↦ tt
-  | RxBwV.Bw10 ↦ tt
-  | RxBwV.Bw5p2 ↦ tt
-  | RxBwV.Bw533 ↦ tt
-  | RxBwV.Bw266 ↦ tt
-  | RxBwV.Bw133 ↦ tt
-  | RxBwV.Bw66 ↦ tt
-  | RxBwV.Bw33 ↦ tt
-  | RxBwV.Bw16 ↦ tt
-  | RxBwV.Bw8p3 ↦ tt
-  | RxBwV.Bw4p2 ↦ tt
-  | RxBwV.Bw2222 ↦ tt
-  | RxBwV.Bw1111 ↦ tt
-  | RxBwV.Bw740 ↦ tt
-  | RxBwV.Bw370 ↦ tt
-  | RxBwV.Bw185 ↦ tt
-  | RxBwV.Bw92 ↦ tt
-  | RxBwV.Bw46 ↦ tt
-  | RxBwV.Bw23 ↦ tt
-  | RxBwV.Bw5p8 ↦ tt
-  | RxBwV.Bw555 ↦ tt
-  | RxBwV.Bw277 ↦ tt
-  | RxBwV.Bw138 ↦ tt
-  | RxBwV.Bw69 ↦ tt
-  | RxBwV.Bw34 ↦ tt
-  | RxBwV.Bw8p7 ↦ tt
-  | RxBwV.Bw4p3 ↦ tt
-  | RxBwV.Bw444 ↦ tt
-  | RxBwV.Bw222 ↦ tt
-  | RxBwV.Bw111 ↦ tt
-  | RxBwV.Bw55 ↦ tt
-  | RxBwV.Bw27 ↦ tt
-  | RxBwV.Bw13 ↦ tt
-  | RxBwV.Bw6p9 ↦ tt
-  | RxBwV.Bw3p5 ↦ tt
   | RxBwV.BwAuto ↦ tt
+  | RxBwV.Bw3076 ↦ tt
+  | RxBwV.Bw2857 ↦ tt
+  | RxBwV.Bw2666 ↦ tt
+  | RxBwV.Bw2222 ↦ tt
+  | RxBwV.Bw1333 ↦ tt
+  | RxBwV.Bw1111 ↦ tt
+  | RxBwV.Bw888 ↦ tt
+  | RxBwV.Bw769 ↦ tt
+  | RxBwV.Bw740 ↦ tt
+  | RxBwV.Bw714 ↦ tt
+  | RxBwV.Bw666 ↦ tt
+  | RxBwV.Bw615 ↦ tt
+  | RxBwV.Bw571 ↦ tt
+  | RxBwV.Bw555 ↦ tt
+  | RxBwV.Bw533 ↦ tt
+  | RxBwV.Bw512 ↦ tt
+  | RxBwV.Bw476 ↦ tt
+  | RxBwV.Bw444 ↦ tt
+  | RxBwV.Bw384 ↦ tt
+  | RxBwV.Bw370 ↦ tt
+  | RxBwV.Bw357 ↦ tt
+  | RxBwV.Bw333 ↦ tt
+  | RxBwV.Bw307 ↦ tt
+  | RxBwV.Bw285 ↦ tt
+  | RxBwV.Bw277 ↦ tt
+  | RxBwV.Bw266 ↦ tt
+  | RxBwV.Bw256 ↦ tt
+  | RxBwV.Bw238 ↦ tt
+  | RxBwV.Bw222 ↦ tt
+  | RxBwV.Bw192 ↦ tt
+  | RxBwV.Bw185 ↦ tt
+  | RxBwV.Bw178 ↦ tt
+  | RxBwV.Bw166 ↦ tt
+  | RxBwV.Bw153 ↦ tt
+  | RxBwV.Bw142 ↦ tt
+  | RxBwV.Bw138 ↦ tt
+  | RxBwV.Bw133 ↦ tt
+  | RxBwV.Bw128 ↦ tt
+  | RxBwV.Bw119 ↦ tt
+  | RxBwV.Bw111 ↦ tt
+  | RxBwV.Bw96 ↦ tt
+  | RxBwV.Bw92 ↦ tt
+  | RxBwV.Bw89 ↦ tt
+  | RxBwV.Bw83 ↦ tt
+  | RxBwV.Bw76 ↦ tt
+  | RxBwV.Bw71 ↦ tt
+  | RxBwV.Bw69 ↦ tt
+  | RxBwV.Bw66 ↦ tt
+  | RxBwV.Bw64 ↦ tt
+  | RxBwV.Bw59 ↦ tt
+  | RxBwV.Bw55 ↦ tt
+  | RxBwV.Bw48 ↦ tt
+  | RxBwV.Bw46 ↦ tt
+  | RxBwV.Bw44 ↦ tt
+  | RxBwV.Bw41 ↦ tt
+  | RxBwV.Bw38 ↦ tt
+  | RxBwV.Bw35 ↦ tt
+  | RxBwV.Bw34 ↦ tt
+  | RxBwV.Bw33 ↦ tt
+  | RxBwV.Bw32 ↦ tt
+  | RxBwV.Bw29 ↦ tt
+  | RxBwV.Bw27 ↦ tt
+  | RxBwV.Bw24 ↦ tt
+  | RxBwV.Bw23 ↦ tt
+  | RxBwV.Bw22 ↦ tt
+  | RxBwV.Bw20 ↦ tt
+  | RxBwV.Bw19 ↦ tt
+  | RxBwV.Bw17 ↦ tt
+  | RxBwV.Bw16 ↦ tt
+  | RxBwV.Bw14 ↦ tt
+  | RxBwV.Bw13 ↦ tt
+  | RxBwV.Bw12 ↦ tt
+  | RxBwV.Bw11 ↦ tt
+  | RxBwV.Bw10 ↦ tt
+  | RxBwV.Bw9p6 ↦ tt
+  | RxBwV.Bw8p9 ↦ tt
+  | RxBwV.Bw8p7 ↦ tt
+  | RxBwV.Bw8p3 ↦ tt
+  | RxBwV.Bw8 ↦ tt
+  | RxBwV.Bw7p4 ↦ tt
+  | RxBwV.Bw6p9 ↦ tt
+  | RxBwV.Bw6 ↦ tt
+  | RxBwV.Bw5p8 ↦ tt
+  | RxBwV.Bw5p6 ↦ tt
+  | RxBwV.Bw5p2 ↦ tt
+  | RxBwV.Bw4p8 ↦ tt
+  | RxBwV.Bw4p5 ↦ tt
+  | RxBwV.Bw4p3 ↦ tt
+  | RxBwV.Bw4p2 ↦ tt
+  | RxBwV.Bw3p5 ↦ tt
 ]
 listed of.pblLenDetect x = elim x as (λ y. T (isIn (codeOf of.pblLenDetect y) (codesIn of.pblLenDetect))) [
   | PblLenDetectV.None ↦ tt

@@ -1,1 +1,2 @@
+pub mod Enums
 pub mod Values

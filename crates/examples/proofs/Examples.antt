@@ -2,12 +2,12 @@
 -- Assumes nothing.
 use mathlib.Core.Path.{_≡_, refl}
 use mathlib.Core.List.{List, [], _∷_, map}
-use Prim.Native.Nat.{ℕ, _^_}
+use Prim.Native.Nat.{ℕ, _+_, _^_}
 use Rattle.frame.specs.Field.{part, mask, read, readTo, sound}
 use Rattle.frame.specs.Layout.{put, tab, tabFrom, byteOf, maskOf, reads}
 use Rattle.table.specs.Number.{plainOf, narrowOf, narrowsOf}
 use Rattle.table.specs.Codes.{lists, rxBwCodes, isIn, takes}
-use Rattle.table.specs.Table.{plain}
+use Rattle.table.specs.Table.{kinds, plain}
 use Rattle.table.specs.Laid.{find}
 use Rattle.refusal.specs.Numbers.{numberOf, placeOf}
 use Rattle.decoder.specs.Decoding as decoder
@@ -212,7 +212,7 @@ cases =
     ∷ decodes (0x02 ∷ 0x1D ∷ 0x40 ∷ 0 ∷ []) (accepted (15 ∷ 1 ∷ 0 ∷ 0 ∷ 0 ∷ 0 ∷ []))
     -- kinds, missing and surplus arguments
     ∷ checks 0 (1 ∷ []) (refused 13 0)
-    ∷ checks 40 [] (refused 13 0)
+    ∷ checks (kinds + 1) [] (refused 13 0)
     ∷ checks 4 [] (refused 6 1)
     ∷ checks 4 (1 ∷ 2 ∷ []) (refused 6 2)
     ∷ checks 4 (256 ∷ 2 ∷ []) (refused 6 1)

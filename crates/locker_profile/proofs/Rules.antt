@@ -27,7 +27,7 @@ use Rattle.cmd_lora.specs.declared.LoraCr.{LoraCr}
 use Rattle.cmd_lora.specs.declared.LoraCr.the-variants.{Cr1Ham45Si, Cr2Ham23Si, Cr3Ham47Si, Cr4Ham12Si}
 use Rattle.cmd_lora.specs.declared.Sf.{Sf}
 use Rattle.cmd_lora.specs.declared.Sf.the-variants.{Sf7, Sf8, Sf9, Sf10, Sf11, Sf12}
-use Rattle.enums.specs.Values as enums
+use Rattle.enums.specs.Enums as enums
 use Rattle.locker_profile.specs.declared.Lora.{Lora}
 use Rattle.locker_profile.specs.Rules.{crc, dueFor, firstBroken, header, isLong, optimisation, rate, rules}
 use Rattle.locker_profile.specs.Rules.{spreadingFactor, syncword, width, widthIn, widthOf}

@@ -13,7 +13,7 @@ use Rattle.cmd_lora.specs.declared.LoraBw.the-variants.{Bw125, Bw250}
 use Rattle.cmd_lora.specs.declared.LoraCr.the-variants.{Cr1Ham45Si, Cr4Ham12Si}
 use Rattle.cmd_lora.specs.declared.Ldro.the-variants.{Off, On}
 use Rattle.cmd_lora.specs.declared.HeaderType.the-variants.{Explicit}
-use Rattle.enums.specs.Values.{loraBw, valuesOf}
+use Rattle.enums.specs.Enums.{loraBw, valuesOf}
 use Rattle.locker_profile.specs.declared.Lora.{Lora}
 
 -- ---- how long a symbol lasts

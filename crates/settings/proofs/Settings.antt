@@ -2,7 +2,7 @@
 --     slotOf-length    a frame that decodes to a setting is as long as its slot says
 --     size-low         no setting's frame has less than three bytes
 --     slot-one         a slot has one kind
---     setting-kinds    the ten actions, by number
+--     setting-kinds    the actions, by number
 --     lacks-thirteen   which get 13
 -- Assumes nothing.
 use mathlib.Core.Path.{ap, refl, sym, _∙_, _≡_}
@@ -96,6 +96,13 @@ pub size-none : (s : ℕ) → settings ≤ s → sizeOf s ≡ 0
 unfolding sizeOf lengths
 size-none s h = past-end (lengths rows) s h
 
+pub size-most : (s : ℕ) → sizeOf s ≤ 12
+size-most s = go (ltb s settings) refl
+  where
+    go : (t : Bool) → ltb s settings ≡ t → sizeOf s ≤ 12
+    go true e = size-high s (ltb-true s settings e)
+    go false e = omega (arith, size-none s (ltb-false s settings e))
+
 pub size-some : (s : ℕ) → (sizeOf s ≡ 0 → ⊥) → s < settings
 size-some s n = go (ltb s settings) refl
   where
@@ -106,7 +113,7 @@ size-some s n = go (ltb s settings) refl
 -- ---- slots
 
 module _ (k : ℕ) (low : 0 < k) (high : k ≤ kinds) where
-  slot-row : slotFor k ≡ table.slotOf (rowOf k)
+  pub slot-row : slotFor k ≡ table.slotOf (rowOf k)
   unfolding slotFor
   slot-row = rw (lt-ltb 0 k low, le-leb k kinds high)
 
@@ -137,15 +144,6 @@ slot-one j k a e =
     let p = slot-bounds j a in
     let q = slot-bounds k b in
     omega (arith, row-suited j (p .0) (p .1) a .1, row-suited k (q .0) (q .1) b .1, ap (placeFor rows) e)
-
--- what no arm of a `match` over the numbers below n takes
-abbrev Past : ℕ → ℕ → Type 0
-Past zero i = Unit
-Past (suc n) i = Past n i × (i ≡ n → ⊥)
-
-pub past : (n i : ℕ) → Past n i → n ≤ i
-past zero i p = omega arith
-past (suc n) i p = let l : n ≤ i = past n i (p .0) in let d : i ≡ n → ⊥ = p .1 in omega arith
 
 pub slot-zero : action ≡ slotFor 0
 unfolding slotFor
@@ -189,7 +187,11 @@ lacks-thirteen k vs = refl
 
 -- the kinds that are no settings
 abbrev pub actions : List ℕ
-actions = 8 ∷ 9 ∷ 10 ∷ 22 ∷ 23 ∷ 29 ∷ 30 ∷ 32 ∷ 36 ∷ 37 ∷ []
+actions =
+    -- from commands.json: actions
+    8 ∷ 9 ∷ 10 ∷ 22 ∷ 23 ∷ 29 ∷ 30 ∷ 32 ∷ 36 ∷ 37
+    -- end: actions
+    ∷ []
 
 abbrev alike : Bool → Bool → Bool
 alike x y = cond x y (not y)
@@ -204,7 +206,7 @@ listed : every (λ i r. alike (ltb (table.slotOf r) settings) (not (isIn (suc i)
 unfolding every isIn
 listed = refl
 
--- THE TEN ACTIONS: a number is a setting's kind exactly if it is a kind and none of these
+-- THE ACTIONS: a number is a setting's kind exactly if it is a kind and none of these
 pub setting-kinds : (k : ℕ) → ltb (slotFor k) settings ≡ isKind k && not (isIn k actions)
 unfolding slotFor
 setting-kinds k = go (ltb 0 k) refl (leb k kinds) refl

@@ -11,6 +11,9 @@ forms-once κs a h o u p q i = (same p q i, o .1)
 row-at-once : Once table.row_at.ended table.row_at.Reads.Pre table.row_at.Reads.Learnt
 row-at-once κs a h o u p q i = (same p q i, o .1)
 
+head-at-once : Once table.head_at.ended table.head_at.Reads.Pre table.head_at.Reads.Learnt
+head-at-once κs a h o u p q i = (same p q i, o .1)
+
 narrow-field-once : Once table.narrow_field.ended table.narrow_field.Reads.Pre table.narrow_field.Reads.Learnt
 narrow-field-once κs a h o u p q i = (same p q i, o .1)
 

@@ -1,4 +1,4 @@
-// The builders of cmd_common, kinds 24 to 39.
+// Made from docs/commands.json by docs/make_reference.py: the builders of cmd_common, kinds 24 to 39.
 use crate::answer::Answer;
 use crate::answer::framed;
 use crate::request::A0;
@@ -141,21 +141,21 @@ fn kind_39(p: &[u8]) -> Answer {
     let cmd = cmd_common::set_cad_params_cmd(
         u32_at(p, A0),
         byte(p, A1),
-        exit_mode(p, A2),
+        cad_exit_mode(p, A2),
         u32_at(p, A3),
     );
     framed(&cmd)
 }
 
 // The value whose code stands at a place; the requests hold no other code, and the last arm takes the first name too.
-fn rx_path(p: &[u8], at: usize) -> RxPath {
+pub fn rx_path(p: &[u8], at: usize) -> RxPath {
     match byte(p, at) {
         1 => RxPath::HfPath,
         _ => RxPath::LfPath,
     }
 }
 
-fn rx_boost(p: &[u8], at: usize) -> RxBoost {
+pub fn rx_boost(p: &[u8], at: usize) -> RxBoost {
     match byte(p, at) {
         1 => RxBoost::B1,
         2 => RxBoost::B2,
@@ -168,14 +168,14 @@ fn rx_boost(p: &[u8], at: usize) -> RxBoost {
     }
 }
 
-fn pa_sel(p: &[u8], at: usize) -> PaSel {
+pub fn pa_sel(p: &[u8], at: usize) -> PaSel {
     match byte(p, at) {
         1 => PaSel::HfPa,
         _ => PaSel::LfPa,
     }
 }
 
-fn pa_lf_mode(p: &[u8], at: usize) -> PaLfMode {
+pub fn pa_lf_mode(p: &[u8], at: usize) -> PaLfMode {
     match byte(p, at) {
         1 => PaLfMode::LfPaFdm,
         2 => PaLfMode::LfPaHsmRfo1,
@@ -184,7 +184,7 @@ fn pa_lf_mode(p: &[u8], at: usize) -> PaLfMode {
     }
 }
 
-fn auto_txrx_mode(p: &[u8], at: usize) -> AutoTxrxMode {
+pub fn auto_txrx_mode(p: &[u8], at: usize) -> AutoTxrxMode {
     match byte(p, at) {
         1 => AutoTxrxMode::Always,
         2 => AutoTxrxMode::RxOk,
@@ -192,7 +192,7 @@ fn auto_txrx_mode(p: &[u8], at: usize) -> AutoTxrxMode {
     }
 }
 
-fn timestamp_index(p: &[u8], at: usize) -> TimestampIndex {
+pub fn timestamp_index(p: &[u8], at: usize) -> TimestampIndex {
     match byte(p, at) {
         1 => TimestampIndex::Ts1,
         2 => TimestampIndex::Ts2,
@@ -200,7 +200,7 @@ fn timestamp_index(p: &[u8], at: usize) -> TimestampIndex {
     }
 }
 
-fn timestamp_source(p: &[u8], at: usize) -> TimestampSource {
+pub fn timestamp_source(p: &[u8], at: usize) -> TimestampSource {
     match byte(p, at) {
         1 => TimestampSource::TxDone,
         2 => TimestampSource::RxDone,
@@ -210,7 +210,7 @@ fn timestamp_source(p: &[u8], at: usize) -> TimestampSource {
     }
 }
 
-fn exit_mode(p: &[u8], at: usize) -> CadExitMode {
+pub fn cad_exit_mode(p: &[u8], at: usize) -> CadExitMode {
     match byte(p, at) {
         1 => CadExitMode::Tx,
         2 => CadExitMode::Rx,

@@ -1,4 +1,4 @@
-// The builders of cmd_fsk, kinds 16 to 23.
+// Made from docs/commands.json by docs/make_reference.py: the builders of cmd_fsk, kinds 16 to 23.
 use crate::answer::Answer;
 use crate::answer::framed;
 use crate::request::A0;
@@ -96,7 +96,7 @@ fn kind_23() -> Answer {
 }
 
 // The value whose code stands at a place; the requests hold no other code, and the last arm takes the first name too.
-fn pulse_shape(p: &[u8], at: usize) -> PulseShape {
+pub fn pulse_shape(p: &[u8], at: usize) -> PulseShape {
     match byte(p, at) {
         1 => PulseShape::Custom,
         4 => PulseShape::Bt0p3,
@@ -117,7 +117,7 @@ fn pulse_shape(p: &[u8], at: usize) -> PulseShape {
     }
 }
 
-fn rx_bw(p: &[u8], at: usize) -> RxBw {
+pub fn rx_bw(p: &[u8], at: usize) -> RxBw {
     match byte(p, at) {
         0 => RxBw::Bw3076,
         64 => RxBw::Bw2857,
@@ -213,7 +213,7 @@ fn rx_bw(p: &[u8], at: usize) -> RxBw {
     }
 }
 
-fn pbl_len_detect(p: &[u8], at: usize) -> PblLenDetect {
+pub fn pbl_len_detect(p: &[u8], at: usize) -> PblLenDetect {
     match byte(p, at) {
         8 => PblLenDetect::Len8Bits,
         16 => PblLenDetect::Len16Bits,
@@ -223,14 +223,14 @@ fn pbl_len_detect(p: &[u8], at: usize) -> PblLenDetect {
     }
 }
 
-fn pld_len_unit(p: &[u8], at: usize) -> PldLenUnit {
+pub fn pld_len_unit(p: &[u8], at: usize) -> PldLenUnit {
     match byte(p, at) {
         1 => PldLenUnit::Bits,
         _ => PldLenUnit::Bytes,
     }
 }
 
-fn addr_comp(p: &[u8], at: usize) -> AddrComp {
+pub fn addr_comp(p: &[u8], at: usize) -> AddrComp {
     match byte(p, at) {
         1 => AddrComp::Node,
         2 => AddrComp::NodeBcast,
@@ -238,7 +238,7 @@ fn addr_comp(p: &[u8], at: usize) -> AddrComp {
     }
 }
 
-fn fsk_pkt_format(p: &[u8], at: usize) -> FskPktFormat {
+pub fn fsk_pkt_format(p: &[u8], at: usize) -> FskPktFormat {
     match byte(p, at) {
         1 => FskPktFormat::Variable8bit,
         2 => FskPktFormat::Variable9bit,
@@ -247,7 +247,7 @@ fn fsk_pkt_format(p: &[u8], at: usize) -> FskPktFormat {
     }
 }
 
-fn crc(p: &[u8], at: usize) -> Crc {
+pub fn crc(p: &[u8], at: usize) -> Crc {
     match byte(p, at) {
         1 => Crc::Crc1Byte,
         2 => Crc::Crc2Byte,
@@ -261,14 +261,14 @@ fn crc(p: &[u8], at: usize) -> Crc {
     }
 }
 
-fn whiten_type(p: &[u8], at: usize) -> WhitenType {
+pub fn whiten_type(p: &[u8], at: usize) -> WhitenType {
     match byte(p, at) {
         1 => WhitenType::Sx128x,
         _ => WhitenType::Sx126xLr11xx,
     }
 }
 
-fn bit_order(p: &[u8], at: usize) -> BitOrder {
+pub fn bit_order(p: &[u8], at: usize) -> BitOrder {
     match byte(p, at) {
         1 => BitOrder::MsbFirst,
         _ => BitOrder::LsbFirst,

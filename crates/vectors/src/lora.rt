@@ -1,4 +1,4 @@
-// The builders of cmd_lora, kinds 1 to 15.
+// Made from docs/commands.json by docs/make_reference.py: the builders of cmd_lora, kinds 1 to 15.
 use crate::answer::Answer;
 use crate::answer::framed;
 use crate::request::A0;
@@ -110,7 +110,7 @@ fn kind_7(p: &[u8]) -> Answer {
         byte(p, A0),
         yes(p, A1),
         byte(p, A2),
-        exit_mode(p, A3),
+        lora_cad_exit_mode(p, A3),
         u32_at(p, A4),
         byte(p, A5),
     );
@@ -220,14 +220,14 @@ pub fn lora_cr(p: &[u8], at: usize) -> LoraCr {
     }
 }
 
-fn ldro(p: &[u8], at: usize) -> Ldro {
+pub fn ldro(p: &[u8], at: usize) -> Ldro {
     match byte(p, at) {
         1 => Ldro::On,
         _ => Ldro::Off,
     }
 }
 
-fn lora_filter(p: &[u8], at: usize) -> LoraFilter {
+pub fn lora_filter(p: &[u8], at: usize) -> LoraFilter {
     match byte(p, at) {
         1 => LoraFilter::Chf,
         2 => LoraFilter::Dcc,
@@ -236,21 +236,21 @@ fn lora_filter(p: &[u8], at: usize) -> LoraFilter {
     }
 }
 
-fn header_type(p: &[u8], at: usize) -> HeaderType {
+pub fn header_type(p: &[u8], at: usize) -> HeaderType {
     match byte(p, at) {
         1 => HeaderType::Implicit,
         _ => HeaderType::Explicit,
     }
 }
 
-fn timeout_format(p: &[u8], at: usize) -> TimeoutFormat {
+pub fn timeout_format(p: &[u8], at: usize) -> TimeoutFormat {
     match byte(p, at) {
         1 => TimeoutFormat::Float,
         _ => TimeoutFormat::Integer,
     }
 }
 
-fn exit_mode(p: &[u8], at: usize) -> LoraCadExitMode {
+pub fn lora_cad_exit_mode(p: &[u8], at: usize) -> LoraCadExitMode {
     match byte(p, at) {
         1 => LoraCadExitMode::CadRx,
         16 => LoraCadExitMode::CadLbt,
@@ -258,7 +258,7 @@ fn exit_mode(p: &[u8], at: usize) -> LoraCadExitMode {
     }
 }
 
-fn addr_len(p: &[u8], at: usize) -> AddrLen {
+pub fn addr_len(p: &[u8], at: usize) -> AddrLen {
     match byte(p, at) {
         1 => AddrLen::Addr1B,
         2 => AddrLen::Addr2B,
@@ -272,7 +272,7 @@ fn addr_len(p: &[u8], at: usize) -> AddrLen {
     }
 }
 
-fn timing_sync_mode(p: &[u8], at: usize) -> TimingSyncMode {
+pub fn timing_sync_mode(p: &[u8], at: usize) -> TimingSyncMode {
     match byte(p, at) {
         1 => TimingSyncMode::Initiator,
         2 => TimingSyncMode::Responder,

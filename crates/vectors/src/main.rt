@@ -26,6 +26,7 @@ const REQUESTS: usize = 860;
 
 // The answer for an operation with the slice length `aux` and the payload p.
 fn answer_to(op: u8, aux: usize, p: &[u8]) -> Answer {
+    // from commands.json: builders
     if op < 16 {
         return lora::built(op, p);
     }
@@ -35,6 +36,7 @@ fn answer_to(op: u8, aux: usize, p: &[u8]) -> Answer {
     if op < 64 {
         return common::built(op, p);
     }
+    // end: builders
     if op < 73 {
         if aux <= p.len() {
             return readers::read_slice(op, &p[0..aux], p);

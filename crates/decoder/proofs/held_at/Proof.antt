@@ -1,5 +1,5 @@
 use mathlib.Core.Path.{_≡_, sym, ap}
-use Prim.Native.Nat.{ℕ, _-_, min}
+use Prim.Native.Nat.{ℕ, zero-le, _-_, _≤_, min}
 use native.Mathlib.Omega.{arith}
 use mathlib.Core.List.{[]}
 use lib.ListN.{getD}
@@ -16,26 +16,23 @@ use Rattle.decoder.proofs.held_at.Tie as tie
 is : {i k : ℕ} → i ≡ k → heldOf (rowAt k) ≡ heldOf (rowAt i)
 is e = sym (ap (λ (j : ℕ). heldOf (rowAt j)) e)
 
-last : tie.Need-returns-39
-unfolding heldOf rowAt firstWord lastWord bigEnd maskOf mask narrowsOf narrowOf
-last c =
-    let i = c .before .args .i in
-    let e : min i (kinds - 1) ≡ kinds - 1 = omega (arith, past (kinds - 1) i (c .match .rest)) in
-    sym (ap (λ (k : ℕ). heldOf (getD rows k [])) e)
+last : (i : ℕ) → kinds - 1 ≤ i → heldOf (rowAt (kinds - 1)) ≡ heldOf (rowAt i)
+unfolding rowAt
+last i h = let e : min i (kinds - 1) ≡ kinds - 1 = omega arith in sym (ap (λ (k : ℕ). heldOf (getD rows k [])) e)
 
 pub held-at-spec : {M : Type 1} → statement M
 unfolding heldOf rowAt firstWord lastWord bigEnd maskOf mask narrowsOf narrowOf
 held-at-spec =
     tie.close
     (tie.spec
-    (λ c. is (c .match .keys1)) (λ c. is (c .match .keys2)) (λ c. is (c .match .keys3)) (λ c. is (c .match .keys4))
-    (λ c. is (c .match .keys5)) (λ c. is (c .match .keys6)) (λ c. is (c .match .keys7)) (λ c. is (c .match .keys8))
-    (λ c. is (c .match .keys9)) (λ c. is (c .match .keys10)) (λ c. is (c .match .keys11)) (λ c. is (c .match .keys12))
-    (λ c. is (c .match .keys13)) (λ c. is (c .match .keys14)) (λ c. is (c .match .keys15)) (λ c. is (c .match .keys16))
-    (λ c. is (c .match .keys17)) (λ c. is (c .match .keys18)) (λ c. is (c .match .keys19)) (λ c. is (c .match .keys20))
-    (λ c. is (c .match .keys21)) (λ c. is (c .match .keys22)) (λ c. is (c .match .keys23)) (λ c. is (c .match .keys24))
-    (λ c. is (c .match .keys25)) (λ c. is (c .match .keys26)) (λ c. is (c .match .keys27)) (λ c. is (c .match .keys28))
-    (λ c. is (c .match .keys29)) (λ c. is (c .match .keys30)) (λ c. is (c .match .keys31)) (λ c. is (c .match .keys32))
-    (λ c. is (c .match .keys33)) (λ c. is (c .match .keys34)) (λ c. is (c .match .keys35)) (λ c. is (c .match .keys36))
-    (λ c. is (c .match .keys37)) (λ c. is (c .match .keys38))
-    last)
+    -- from commands.json: arms
+    (λ c. is (c .match .keys1)) (λ c. is (c .match .keys2)) (λ c. is (c .match .keys3)) (λ c. is (c .match .keys4)) (λ c. is (c .match .keys5))
+    (λ c. is (c .match .keys6)) (λ c. is (c .match .keys7)) (λ c. is (c .match .keys8)) (λ c. is (c .match .keys9)) (λ c. is (c .match .keys10))
+    (λ c. is (c .match .keys11)) (λ c. is (c .match .keys12)) (λ c. is (c .match .keys13)) (λ c. is (c .match .keys14)) (λ c. is (c .match .keys15))
+    (λ c. is (c .match .keys16)) (λ c. is (c .match .keys17)) (λ c. is (c .match .keys18)) (λ c. is (c .match .keys19)) (λ c. is (c .match .keys20))
+    (λ c. is (c .match .keys21)) (λ c. is (c .match .keys22)) (λ c. is (c .match .keys23)) (λ c. is (c .match .keys24)) (λ c. is (c .match .keys25))
+    (λ c. is (c .match .keys26)) (λ c. is (c .match .keys27)) (λ c. is (c .match .keys28)) (λ c. is (c .match .keys29)) (λ c. is (c .match .keys30))
+    (λ c. is (c .match .keys31)) (λ c. is (c .match .keys32)) (λ c. is (c .match .keys33)) (λ c. is (c .match .keys34)) (λ c. is (c .match .keys35))
+    (λ c. is (c .match .keys36)) (λ c. is (c .match .keys37)) (λ c. is (c .match .keys38))
+    -- end: arms
+    (λ c. last _ (past 0 (kinds - 1) _ zero-le (c .match .rest))))

@@ -1,14 +1,14 @@
--- The arms of cmd_lora's rows: what an arm asks and gives is one law each (proofs/Arms.antt); its place, length and fields are its row's by `refl`.
--- Assumes nothing.
+-- Made from docs/commands.json by docs/make_reference.py: the arms of cmd_lora's rows. What an arm asks and gives is one law each
+-- (proofs/Arms.antt); its place, length and fields are its row's by `refl`. Assumes nothing.
 use mathlib.Core.Path.{_≡_, refl}
-use Prim.Native.Nat.{ℕ, _≤_}
+use Prim.Native.Nat.{ℕ}
 use native.Mathlib.Omega.{arith}
 use borrow.Author.Needs.{needs}
 use lib.ListN.{getD}
 use Rattle.frame.specs.Field.{sound}
 use Rattle.table.specs.Number.{narrowOf}
 use Rattle.table.specs.Table.{rowAt, lenOf}
-use Rattle.table.proofs.Past.{past}
+use Rattle.table.proofs.Past.{Past, past}
 use Rattle.decoder.specs.Words.{firstWord}
 use Rattle.decoder.proofs.Arms.{Arm, fits, asks, gives, got, nothing, onlyWide}
 use Rattle.decoder.proofs.rows.read_lora.Statement.{statement}
@@ -16,11 +16,11 @@ use Rattle.decoder.proofs.rows.read_lora.Tie as tie
 
 -- the arm of the row at k, which has n bytes
 row : (s : tie.Start) (k n : ℕ) → s .args .i ≡ k → lenOf (rowAt k) ≡ n → Arm (s .args .i) k n (s .args .frame .now)
-row s k n e en = record { this = e; of-table = omega (arith, s .pre .0); long = s .pre .1; length-is = en }
+row s k n e en = record { this = e; of-table = omega (arith, s .pre .1); long = s .pre .2; length-is = en }
 
 -- what is matched last is the last place
-end : (s : tie.Start) → 14 ≤ s .args .i → s .args .i ≡ 14
-end s h = omega (arith, s .pre .0)
+end : (s : tie.Start) → Past 0 14 (s .args .i) → s .args .i ≡ 14
+end s h = omega (arith, past 0 14 (s .args .i) (s .pre .0) h, s .pre .1)
 
 pub read-lora-spec : {M : Type 1} → statement M
 unfolding rowAt firstWord onlyWide narrowOf sound
@@ -63,8 +63,8 @@ read-lora-spec =
     (λ c κs. fits (row (c .before .before .before) 10 11 (c .before .match .keys11) refl))
     (search needs) (search needs)
     (λ c κs. asks (row (c .before .before .before .before .before .before .before) 10 11 (c .before .before .before .before .before .match .keys11) refl)
-    _ refl _ _ (c .before .before .before .before .first-of3 .ensures) (c .before .before .before .last-of11 .ensures)
-    _ (getD (rowAt 10) 6 0) (got (getD (rowAt 10) 6 0) _ _ (c .before .before .narrow-field .ensures) tt _ (c .before .get .ensures)) tt)
+    _ refl _ _ (c .before .before .before .before .first-of3 .ensures) (c .before .before .before .last-of11 .ensures) _ (getD (rowAt 10) 6 0) (got (getD (rowAt
+    10) 6 0) _ _ (c .before .before .narrow-field .ensures) tt _ (c .before .get .ensures)) tt)
     (λ c κs. fits (row (c .before .before) 11 4 (c .match .keys12) refl))
     (λ c κs. asks (row (c .before .before .before .before) 11 4 (c .before .before .match .keys12) refl)
     _ refl _ _ refl (c .before .last-of12 .ensures) 0 0 (nothing _) tt)
@@ -74,8 +74,8 @@ read-lora-spec =
     (λ c κs. fits (row (c .before .before) 13 3 (c .match .keys14) refl))
     (λ c κs. asks (row (c .before .before .before .before) 13 3 (c .before .before .match .keys14) refl)
     _ refl _ _ refl (c .before .last-of14 .ensures) 0 0 (nothing _) tt)
-    (λ c κs. fits (row (c .before .before) 14 4 (end (c .before .before) (past 14 _ (c .match .rest))) refl))
-    (λ c κs. asks (row (c .before .before .before .before) 14 4 (end (c .before .before .before .before) (past 14 _ (c .before .before .match .rest))) refl)
+    (λ c κs. fits (row (c .before .before) 14 4 (end (c .before .before) (c .match .rest)) refl))
+    (λ c κs. asks (row (c .before .before .before .before) 14 4 (end (c .before .before .before .before) (c .before .before .match .rest)) refl)
     _ refl _ _ refl (c .before .last-of15 .ensures) 0 0 (nothing _) tt)
     (λ c. gives (row (c .before .before .before .before .before) 0 4 (c .before .before .before .match .keys1) refl)
     _ refl _ _ refl (c .before .before .last-of .ensures) _ _ (c .read-fields .ensures .0) (c .read-fields .ensures .1))
@@ -109,6 +109,6 @@ read-lora-spec =
     _ refl _ _ refl (c .before .before .last-of13 .ensures) _ _ (c .read-fields13 .ensures .0) (c .read-fields13 .ensures .1))
     (λ c. gives (row (c .before .before .before .before .before) 13 3 (c .before .before .before .match .keys14) refl)
     _ refl _ _ refl (c .before .before .last-of14 .ensures) _ _ (c .read-fields14 .ensures .0) (c .read-fields14 .ensures .1))
-    (λ c. gives (row (c .before .before .before .before .before) 14 4 (end (c .before .before .before .before .before) (past 14 _
-    (c .before .before .before .match .rest))) refl)
+    (λ c. gives (row (c .before .before .before .before .before) 14 4 (end (c .before .before .before .before .before) (c .before .before .before .match .rest))
+    refl)
     _ refl _ _ refl (c .before .before .last-of15 .ensures) _ _ (c .read-fields15 .ensures .0) (c .read-fields15 .ensures .1)))
