@@ -1,13 +1,9 @@
 // The book, ours beside Rust's: each call on many books that were made before the clock starts.
 // A header has an offset for each slot, an owner table an entry, and frames start behind the header. A full book holds one form of each
-// setting, with at most so many bytes together; the buffers have room for more.
-enum { SETTINGS = 29, PAIRS = 3, HELD = SETTINGS - PAIRS, SLOTS = 29, START = 4 + 2 * SLOTS, MOST_BYTES = 169 };
-enum { ROOM = START + MOST_BYTES + 69, POOL = 16, REPLAY = 256 };
+// setting, with at most so many bytes together; the buffers have room for more. The settings, and where longer forms stand among them, each behind
+// the shorter one, are those of bench/tables.py.
+enum { HELD = SETTINGS - PAIRS, START = 4 + 2 * SLOTS, ROOM = START + MOST_BYTES + 69, POOL = 16, REPLAY = 256 };
 
-static const int settings[SETTINGS] = {1, 2, 3, 4, 5, 6, 7, 11, 12, 13, 14, 15, 16, 17, 18, 19, 20, 21, 24, 25, 26, 27, 28, 31, 33, 34, 35,
-    38, 39};
-// Where the longer forms of 5, 25 and 27 stand in that list; a book holds one of the two.
-static const int longer[PAIRS] = {5, 20, 22};
 typedef struct { u8 bytes[12]; int size; } frame;
 static frame pool[SETTINGS][POOL];
 
@@ -165,13 +161,13 @@ static void books(void) {
     compare("book of 5, remove", hb_removes, rs_removes);
     compare("book of 5, ask", hb_asks, rs_asks);
     compare("book of 5, replay", hb_replays, rs_replays);
-    make_books(HELD, 1), compare("book of 25, put a 26th", hb_puts, rs_puts);
-    make_books(HELD, 0), compare("book of 26, put over", hb_puts, rs_puts);
-    compare("book of 26, remove", hb_removes, rs_removes);
-    compare("book of 26, ask", hb_asks, rs_asks);
-    compare("book of 26, replay", hb_replays, rs_replays);
-    make_swaps(), compare("book of 26, swap to short and back", hb_swaps, rs_swaps);
-    asked_empty("empty book of 62 bytes, ask", START);
+    make_books(HELD, 1), compare(named("book of %d, put a %dth", HELD - 1, HELD), hb_puts, rs_puts);
+    make_books(HELD, 0), compare(named("book of %d, put over", HELD, 0), hb_puts, rs_puts);
+    compare(named("book of %d, remove", HELD, 0), hb_removes, rs_removes);
+    compare(named("book of %d, ask", HELD, 0), hb_asks, rs_asks);
+    compare(named("book of %d, replay", HELD, 0), hb_replays, rs_replays);
+    make_swaps(), compare(named("book of %d, swap to short and back", HELD, 0), hb_swaps, rs_swaps);
+    asked_empty(named("empty book of %d bytes, ask", START, 0), START);
     asked_empty("empty book of 1024 bytes, ask", 1024);
     asked_empty("empty book of 2048 bytes, ask", 2048);
     asked_empty("empty book of 4096 bytes, ask", 4096);

@@ -1,24 +1,17 @@
 // The settings book in the Rust that one would write by hand from the reference: a lent buffer, judged whole at each call. bench/run compares
 // the port's book with it.
 use crate::decoder::decode;
+use crate::rows::{FORMS, KINDS, SETTINGS, SLOTS};
 
 // A refusal's number and place.
 pub type Refusal = (u8, u8);
 pub type Answer = Result<usize, Refusal>;
 
-// The kinds of commands, and the layout: its version, and a slot for each offset of the header, behind which the frames start.
-pub const KINDS: usize = 39;
+// The layout: its version, and a slot for each offset of the header, behind which the frames start.
 const VERSION: u8 = 1;
-const SLOTS: usize = 29;
 const START: usize = 4 + 2 * SLOTS;
 const LONGEST: usize = 4096;
 const NOT_WELL_FORMED: Refusal = (10, 0);
-
-// The kind of each slot that a setting has, and the length of its frames.
-const SETTINGS: [(u8, u8); 29] = [
-    (1, 4), (2, 6), (3, 4), (4, 3), (5, 8), (6, 12), (7, 9), (11, 11), (12, 4), (13, 8), (14, 3), (15, 4), (16, 11), (17, 9), (18, 4),
-    (19, 10), (20, 11), (21, 4), (24, 6), (25, 3), (26, 4), (27, 4), (28, 5), (31, 3), (33, 10), (34, 8), (35, 3), (38, 3), (39, 10),
-];
 
 const SLOT_OF: [u8; KINDS + 1] = {
     let mut slots = [255; KINDS + 1];
@@ -30,16 +23,17 @@ const SLOT_OF: [u8; KINDS + 1] = {
     slots
 };
 
-// The slots of the settings that have a short and a long form.
-const FORMS: [(usize, usize); 3] = [(4, 5), (19, 20), (21, 22)];
-
-fn other_form(slot: usize) -> Option<usize> {
-    match slot {
-        4 | 19 | 21 => Some(slot + 1),
-        5 | 20 | 22 => Some(slot - 1),
-        _ => None,
+const OTHER_FORM: [Option<usize>; SETTINGS.len()] = {
+    let mut others = [None; SETTINGS.len()];
+    let mut pair = 0;
+    while pair < FORMS.len() {
+        let (short, long) = FORMS[pair];
+        others[short] = Some(long);
+        others[long] = Some(short);
+        pair += 1;
     }
-}
+    others
+};
 
 pub fn slot_of(kind: u64) -> Result<usize, Refusal> {
     match SLOT_OF.get(kind as usize) {
@@ -130,7 +124,7 @@ pub fn put(book: &mut [u8], frame: &[u8]) -> Answer {
         book[at..at + frame.len()].copy_from_slice(frame);
         return Ok(0);
     }
-    if let Some(other) = other_form(slot) {
+    if let Some(other) = OTHER_FORM[slot] {
         if word(book, 4 + 2 * other) != 0 {
             return swap(book, &sound, other, slot, frame);
         }

@@ -6,7 +6,7 @@ typedef unsigned char u8;
 typedef unsigned long u64;
 typedef struct { long sec, nsec; } timespec;
 int clock_gettime(int, timespec *);
-int printf(const char *, ...);
+int printf(const char *, ...), snprintf(char *, u64, const char *, ...);
 
 enum { SETS = 1024, ROUNDS = 64, REPEATS = 21, MOST = 9, BYTES = 20 };
 
@@ -40,6 +40,7 @@ typedef struct { const char *name; reader hb, rs; int size; } reading;
 static const builder builders[] = {
 /* TABLE */
 };
+/* ROWS */
 
 #define READERS(X) X(status, 2) X(intr, 4) X(lora_rx_stats, 12) X(lora_packet_status, 8) X(fsk_rx_stats, 16) \
     X(fsk_packet_status, 8) X(rssi_inst, 4) X(timestamp_value, 6) X(cca_result, 6)
@@ -81,6 +82,13 @@ static void report(const char *name, double *ratios, double hb, double rs, int c
         }
     printf("%s %.2f %.2f %.2f %.2f %.2f\n", name, ratios[REPEATS / 2], ratios[0], ratios[REPEATS - 1],
         hb / calls, rs / calls);
+}
+
+// A name with numbers in it, until the next one is made.
+static const char *named(const char *form, int first, int second) {
+    static char name[99];
+    snprintf(name, sizeof name, form, first, second);
+    return name;
 }
 
 // The decoder: frames as the builders make them, some of which it refuses, and frames that were spoilt so that each is refused.
@@ -188,14 +196,14 @@ static void compare_decoder(const char *name, reader other) {
 static void decoders(void) {
     make_all_kinds(), compare_decoder("decode, frames of all kinds in turn", rs_decode);
     make_frames(1), compare_decoder("decode, frames of kind 1", rs_decode);
-    make_frames(39), compare_decoder("decode, frames of kind 39", rs_decode);
+    make_frames(KINDS), compare_decoder(named("decode, frames of kind %d", KINDS, 0), rs_decode);
     make_unknown_opcodes(), compare_decoder("decode, unknown opcode", rs_decode);
     make_wrong_lengths(), compare_decoder("decode, wrong length", rs_decode);
     make_stray_bits(), compare_decoder("decode, stray bit", rs_decode);
     make_unknown_codes(), compare_decoder("decode, unknown code", rs_decode);
     make_all_kinds(), compare_decoder("decode beside a walk over the rows, frames of all kinds in turn", rs_walk);
     make_frames(1), compare_decoder("decode beside a walk over the rows, frames of kind 1", rs_walk);
-    make_frames(39), compare_decoder("decode beside a walk over the rows, frames of kind 39", rs_walk);
+    make_frames(KINDS), compare_decoder(named("decode beside a walk over the rows, frames of kind %d", KINDS, 0), rs_walk);
     make_unknown_opcodes(), compare_decoder("decode beside a walk over the rows, unknown opcode", rs_walk);
 }
 

@@ -2,6 +2,7 @@
 // the kit's emulator. bench/run compares the program `dump` with it.
 #![no_std]
 
+#[path = "../target/bench/decoder.rs"]
 mod decoder;
 
 use core::panic::PanicInfo;

@@ -1,8 +1,9 @@
 #!/usr/bin/env python3
-"""generate.py OUT: writes what bench/run compares, from the builders' own signatures in crates/.
+"""generate.py OUT: writes what bench/run compares, from the builders' own signatures in crates/ and from docs/commands.json.
 
 OUT/port/src/lib.rt   the port, exported to C: hb_KIND for each builder, hb_NAME for each reader
 OUT/rust.rs           the Rust, exported likewise: rs_KIND, rs_NAME
+OUT/decoder.rs        bench/decoder.rs with its arms; OUT/rows.rs the rows that bench/book.rs and bench/walk.rs have
 OUT/driver.c          calls both on the same random arguments in one process and prints ratios
 
 An enum arrives as its place in the enum, and a `match` makes its value, alike on both sides.
@@ -11,11 +12,9 @@ import os
 import re
 import sys
 
-CRATES = ["cmd_lora", "cmd_fsk", "cmd_common"]
-KINDS = 39  # builders that they have
-RUST_ENUM = {"LoraCadExitMode": "cmd_lora::ExitMode", "CadExitMode": "cmd_common::ExitMode"}
+import tables
+
 WIDTH = {"u8": 8, "u16": 16, "u32": 32, "u64": 64, "bool": 1}
-SOURCE = "../lr2021"  # tests/rust-source links it; rust.rs is compiled in OUT
 
 
 def read(crate):
@@ -64,9 +63,10 @@ def port(enums, builders):
     return "\n".join(out)
 
 
-def rust(enums, builders):
-    out = [open("bench/shim.rs", encoding="utf8").read().replace("SOURCE", SOURCE)]
-    out += conversions(enums, lambda crate, name: RUST_ENUM.get(name, f"{crate}::{name}"))
+def rust(data, enums, builders):
+    names = {e["name"]: "%s::%s" % (e["file"], e["rust"]) for e in data["enums"]}
+    out = [open("bench/shim.rs", encoding="utf8").read(), "use cmd::{%s, cmd_system};\n" % ", ".join(files(data))]
+    out += conversions(enums, lambda crate, name: names[name])
     for kind, crate, name, params, size in builders:
         head = "".join(f"{p}: u64, " for p, _ in params)
         args = []
@@ -83,7 +83,7 @@ def rust(enums, builders):
     return "\n".join(out)
 
 
-def driver(enums, builders):
+def driver(data, enums, builders):
     sizes = {name: len(variants) for (_, name), variants in enums.items()}
     calls, table = [], []
     for kind, crate, name, params, size in builders:
@@ -103,23 +103,31 @@ def driver(enums, builders):
         args = "{" + ", ".join(rows or ["{0, 0}"]) + "}"
         table.append(f'    {{"{kind} {name}", hb_loop_{kind}, rs_loop_{kind}, {n}, {args}, {size}}},\n')
     text = open("bench/driver.c", encoding="utf8").read()
-    return text.replace("/* CALLS */\n", "".join(calls)).replace("/* TABLE */\n", "".join(table))
+    return text.replace("/* CALLS */\n", "".join(calls)).replace("/* TABLE */\n", "".join(table)).replace("/* ROWS */\n", tables.c_rows(data))
+
+
+def files(data):
+    """The files of commands, which the crates have their names of."""
+    return ["cmd_" + name for name, _, _ in tables.commands.files(data)]
 
 
 def main():
     out = sys.argv[1]
+    data = tables.commands.load()
     enums, builders = {}, []
-    for crate in CRATES:
+    for crate in files(data):
         e, b = read(crate)
         for name, variants in e.items():
             if name != "Ordering":
                 enums[(crate, name)] = variants
         builders += b
-    assert [b[0] for b in builders] == list(range(1, KINDS + 1)), "a builder is missing"
+    assert [b[0] for b in builders] == [k["kind"] for k in data["kinds"]], "a builder is missing"
+    made = {"port/src/lib.rt": port(enums, builders), "rust.rs": rust(data, enums, builders), "driver.c": driver(data, enums, builders),
+            "decoder.rs": tables.decoder(data), "rows.rs": tables.rust_rows(data)}
     os.makedirs(f"{out}/port/src", exist_ok=True)
-    open(f"{out}/port/src/lib.rt", "w", encoding="utf8").write(port(enums, builders))
-    open(f"{out}/rust.rs", "w", encoding="utf8").write(rust(enums, builders))
-    open(f"{out}/driver.c", "w", encoding="utf8").write(driver(enums, builders))
+    for name, text in made.items():
+        with open(f"{out}/{name}", "w", encoding="utf8") as file:
+            file.write(text)
 
 
 main()

@@ -2,26 +2,9 @@
 #![no_std]
 #![allow(dead_code, unused_imports, unexpected_cfgs)]
 
-#[path = "SOURCE/status.rs"]
-pub mod status;
-
-#[path = "."]
-pub mod cmd {
-    #[path = "SOURCE/cmd/cmd_common.rs"]
-    pub mod cmd_common;
-    #[path = "SOURCE/cmd/cmd_fsk.rs"]
-    pub mod cmd_fsk;
-    #[path = "SOURCE/cmd/cmd_lora.rs"]
-    pub mod cmd_lora;
-    #[path = "SOURCE/cmd/cmd_system.rs"]
-    pub mod cmd_system;
-    pub use cmd_fsk::{PulseShape, RxBw};
-}
-
-#[derive(Debug, Clone, Copy)]
-pub enum Lr2021Error { Pin, Spi, CmdFail, CmdErr, BusyTimeout, InvalidSize, Unknown }
-
-use cmd::{cmd_common, cmd_fsk, cmd_lora, cmd_system};
+#[path = "../../tests/oracle/driver.rs"]
+pub mod driver;
+use driver::{cmd, status};
 use status::{Intr, Status};
 
 #[panic_handler]
@@ -113,8 +96,8 @@ response!(rs_cca_result, cmd_common::CcaResultRsp, 6, mixed_cca_result);
 
 // ---- the decoder, beside one written by hand, and that one behind a walk over the rows
 
-#[path = "../../bench/decoder.rs"]
 mod decoder;
+mod rows;
 
 #[path = "../../bench/walk.rs"]
 mod walk;

@@ -50,14 +50,14 @@ static void sides(void) {
     compare("side, book of 5, remove", side_removes, hb_removes);
     compare("side, book of 5, ask", side_asks, hb_asks);
     compare("side, book of 5, replay", side_replays, hb_replays);
-    make_books(HELD, 1), compare("side, book of 25, put a 26th", side_puts, hb_puts);
-    make_books(HELD, 0), compare("side, book of 26, put over", side_puts, hb_puts);
-    compare("side, book of 26, remove", side_removes, hb_removes);
-    compare("side, book of 26, ask", side_asks, hb_asks);
-    compare("side, book of 26, replay", side_replays, hb_replays);
+    make_books(HELD, 1), compare(named("side, book of %d, put a %dth", HELD - 1, HELD), side_puts, hb_puts);
+    make_books(HELD, 0), compare(named("side, book of %d, put over", HELD, 0), side_puts, hb_puts);
+    compare(named("side, book of %d, remove", HELD, 0), side_removes, hb_removes);
+    compare(named("side, book of %d, ask", HELD, 0), side_asks, hb_asks);
+    compare(named("side, book of %d, replay", HELD, 0), side_replays, hb_replays);
     empty_length = START;
     rs_make(empty, START);
-    compare("side, empty book of 62 bytes, ask", side_asks_empty, hb_asks_empty);
+    compare(named("side, empty book of %d bytes, ask", START, 0), side_asks_empty, hb_asks_empty);
     own_half();
-    compare("side, half of a book of 26, clear beside its removals", side_clears, hb_removes_mine);
+    compare(named("side, half of a book of %d, clear beside its removals", HELD, 0), side_clears, hb_removes_mine);
 }

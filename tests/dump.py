@@ -3,6 +3,7 @@
 
     dump.py < REEL          prints the text of a reel
 """
+import collections
 import sys
 
 # What a field takes, an enum's codes or numbers up to a limit; where it names none, it takes all that it can hold.
@@ -21,52 +22,56 @@ RX_BW = (255, 0, 64, 128, 192, 136, 200, 144, 24, 208, 88, 152, 32, 96, 216, 160
          163, 20, 84, 227, 28, 212, 92, 156, 36, 100, 220, 164, 21, 85, 228, 29, 213, 93, 157, 37, 101, 165, 86, 229,
          30, 94, 158, 38, 102, 222, 166, 23, 87, 230, 31, 215, 95, 159, 39, 103, 223, 167, 231)
 
-# Kind, opcode, length, fields in argument order (REFERENCE, "Commands"). A field: what it takes, and its place as the decoder has it, such as
-# "2.7-4" for bits 7 to 4 of byte 2 and "2-3" for whole bytes ("<" low byte first, "" no bits at all: it reads as 0).
-ROWS = [
-    (1, 0x0220, 4, [("2.7-4", SF), ("2.3-0", None), ("3.7-4", CR), ("3.1-0", TWO), ("3.3-2", None)]),
-    (2, 0x0221, 6, [("2-3", None), ("4", None), ("5.2", None), ("5.1", None), ("5.0", None)]),
-    (3, 0x0222, 4, [("2", None), ("3.0", None)]),
-    (4, 0x0223, 3, [("2", None)]),
-    (5, 0x0226, 8, [("2.7", None), ("2.2-0", None), ("3-4", None), ("5-7", None)]),
-    (6, 0x0226, 12, [("2.7", None), ("2.2-0", None), ("3-4", None), ("5-7", None), ("8.6-0", None), ("9.7-4", None),
-                     ("9.3-0", None), ("10", None), ("11", None)]),
-    (7, 0x0227, 9, [("2", None), ("3.4", None), ("3.3-0", None), ("4", CAD_EXIT), ("5-7", None), ("8", None)]),
-    (8, 0x0228, 2, []),
-    (9, 0x0229, 2, []),
-    (10, 0x022A, 2, []),
-    (11, 0x022B, 11, [("2.7-4", ADDR_LEN), ("2.3-0", None), ("3-10<", None)]),
-    (12, 0x022D, 4, [("2.4-0", None), ("3.4-0", None)]),
-    (13, 0x022E, 8, [("%d.4-0" % b, None) for b in range(2, 8)]),
-    (14, 0x021D, 3, [("2.7-6", THREE), ("2.3-0", None)]),
-    (15, 0x021D, 4, [("2.7-6", None), ("2.5-2", None), ("2.1-0", None), ("3.4", None), ("3.3-0", None)]),
-    (16, 0x0240, 11, [("2-5", None), ("6.3-0", None), ("7", RX_BW), ("8-10", None)]),
-    (17, 0x0241, 9, [("2-3", None), ("4", PBL_DETECT), ("5.4", None), ("", None), ("5.3-2", THREE), ("5.1-0", None),
-                     ("6-7", None), ("8.7-4", CRC), ("8.0", None)]),
-    (18, 0x0242, 4, [("2.4", None), ("2.3-0+3", None)]),
-    (19, 0x0243, 10, [("2-5", None), ("6-9", None)]),
-    (20, 0x0244, 11, [("2-9", None), ("10.7", None), ("10.6-0", NB_BITS)]),
-    (21, 0x0245, 4, [("2", None), ("3", None)]),
-    (22, 0x0246, 2, []),
-    (23, 0x0247, 2, []),
-    (24, 0x0200, 6, [("2-5", None)]),
-    (25, 0x0201, 3, [("2.0", None)]),
-    (26, 0x0201, 4, [("2.0", None), ("3.2-0", None)]),
-    (27, 0x0202, 4, [("2.7", None), ("2.1-0", None), ("2.6-4", None), ("3.3-0", None)]),
-    (28, 0x0202, 5, [("2.7", None), ("2.1-0", None), ("2.6-4", None), ("3.3-0", None), ("4.4-0", None)]),
-    (29, 0x020C, 5, [("2-4", None)]),
-    (30, 0x020D, 5, [("2-4", None)]),
-    (31, 0x020F, 3, [("2.0", None)]),
-    (32, 0x0210, 9, [("2-4", None), ("5-7", None), ("8.4", None), ("8.2-0", None)]),
-    (33, 0x0211, 10, [("2.7", None), ("2.1-0", THREE), ("3-5", None), ("6-9", None)]),
-    (34, 0x0215, 8, [("2-4", None), ("5-7", None)]),
-    (35, 0x0216, 3, [("2.5-4", THREE), ("2.3-0", SOURCE)]),
-    (36, 0x0218, 5, [("2-4", None)]),
-    (37, 0x0218, 6, [("2-4", None), ("5", None)]),
-    (38, 0x021A, 3, [("2.3-0", None)]),
-    (39, 0x021B, 10, [("2-4", None), ("5", None), ("6.1-0", THREE), ("7-9", None)]),
-]
-KINDS = len(ROWS)  # their numbers are 1 to this one
+# Kind, opcode, length, whether a book keeps it, fields in argument order (REFERENCE, "Commands"). Of a setting that is the longer form of another
+# kind, that kind. A field: what it takes, and its place as the decoder has it, such as "2.7-4" for bits 7 to 4 of byte 2 and "2-3" for whole
+# bytes ("<" low byte first, "" no bits at all: it reads as 0).
+Row = collections.namedtuple("Row", "kind opcode length used fields")
+SETTING, ACTION = "setting", "action"
+ROWS = [Row(*row) for row in (
+    (1, 0x0220, 4, SETTING, [("2.7-4", SF), ("2.3-0", None), ("3.7-4", CR), ("3.1-0", TWO), ("3.3-2", None)]),
+    (2, 0x0221, 6, SETTING, [("2-3", None), ("4", None), ("5.2", None), ("5.1", None), ("5.0", None)]),
+    (3, 0x0222, 4, SETTING, [("2", None), ("3.0", None)]),
+    (4, 0x0223, 3, SETTING, [("2", None)]),
+    (5, 0x0226, 8, SETTING, [("2.7", None), ("2.2-0", None), ("3-4", None), ("5-7", None)]),
+    (6, 0x0226, 12, 5, [("2.7", None), ("2.2-0", None), ("3-4", None), ("5-7", None), ("8.6-0", None), ("9.7-4", None),
+                        ("9.3-0", None), ("10", None), ("11", None)]),
+    (7, 0x0227, 9, SETTING, [("2", None), ("3.4", None), ("3.3-0", None), ("4", CAD_EXIT), ("5-7", None), ("8", None)]),
+    (8, 0x0228, 2, ACTION, []),
+    (9, 0x0229, 2, ACTION, []),
+    (10, 0x022A, 2, ACTION, []),
+    (11, 0x022B, 11, SETTING, [("2.7-4", ADDR_LEN), ("2.3-0", None), ("3-10<", None)]),
+    (12, 0x022D, 4, SETTING, [("2.4-0", None), ("3.4-0", None)]),
+    (13, 0x022E, 8, SETTING, [("%d.4-0" % b, None) for b in range(2, 8)]),
+    (14, 0x021D, 3, SETTING, [("2.7-6", THREE), ("2.3-0", None)]),
+    (15, 0x021D, 4, SETTING, [("2.7-6", None), ("2.5-2", None), ("2.1-0", None), ("3.4", None), ("3.3-0", None)]),
+    (16, 0x0240, 11, SETTING, [("2-5", None), ("6.3-0", None), ("7", RX_BW), ("8-10", None)]),
+    (17, 0x0241, 9, SETTING, [("2-3", None), ("4", PBL_DETECT), ("5.4", None), ("", None), ("5.3-2", THREE), ("5.1-0", None),
+                              ("6-7", None), ("8.7-4", CRC), ("8.0", None)]),
+    (18, 0x0242, 4, SETTING, [("2.4", None), ("2.3-0+3", None)]),
+    (19, 0x0243, 10, SETTING, [("2-5", None), ("6-9", None)]),
+    (20, 0x0244, 11, SETTING, [("2-9", None), ("10.7", None), ("10.6-0", NB_BITS)]),
+    (21, 0x0245, 4, SETTING, [("2", None), ("3", None)]),
+    (22, 0x0246, 2, ACTION, []),
+    (23, 0x0247, 2, ACTION, []),
+    (24, 0x0200, 6, SETTING, [("2-5", None)]),
+    (25, 0x0201, 3, SETTING, [("2.0", None)]),
+    (26, 0x0201, 4, 25, [("2.0", None), ("3.2-0", None)]),
+    (27, 0x0202, 4, SETTING, [("2.7", None), ("2.1-0", None), ("2.6-4", None), ("3.3-0", None)]),
+    (28, 0x0202, 5, 27, [("2.7", None), ("2.1-0", None), ("2.6-4", None), ("3.3-0", None), ("4.4-0", None)]),
+    (29, 0x020C, 5, ACTION, [("2-4", None)]),
+    (30, 0x020D, 5, ACTION, [("2-4", None)]),
+    (31, 0x020F, 3, SETTING, [("2.0", None)]),
+    (32, 0x0210, 9, ACTION, [("2-4", None), ("5-7", None), ("8.4", None), ("8.2-0", None)]),
+    (33, 0x0211, 10, SETTING, [("2.7", None), ("2.1-0", THREE), ("3-5", None), ("6-9", None)]),
+    (34, 0x0215, 8, SETTING, [("2-4", None), ("5-7", None)]),
+    (35, 0x0216, 3, SETTING, [("2.5-4", THREE), ("2.3-0", SOURCE)]),
+    (36, 0x0218, 5, ACTION, [("2-4", None)]),
+    (37, 0x0218, 6, ACTION, [("2-4", None), ("5", None)]),
+    (38, 0x021A, 3, SETTING, [("2.3-0", None)]),
+    (39, 0x021B, 10, SETTING, [("2-4", None), ("5", None), ("6.1-0", THREE), ("7-9", None)]),
+)]
+KINDS = 39
+assert [row.kind for row in ROWS] == list(range(1, KINDS + 1)), "a row is missing, or is not at its place"
 
 
 def bits(place):
@@ -87,7 +92,7 @@ def bits(place):
 
 
 BY_OPCODE = {}
-for kind, opcode, length, fields in ROWS:
+for kind, opcode, length, _, fields in ROWS:
     laid = []
     held = [255, 255] + [0] * (length - 2)
     for place, codes in fields:

@@ -4,10 +4,9 @@ import dump
 
 def of_row(r, row, chosen={}):
     """A frame of a row of the table; chosen: what some of its arguments are, by their places from 0."""
-    kind, opcode, length, fields = row
-    frame = bytearray(length)
-    frame[0], frame[1] = opcode >> 8, opcode & 255
-    for at, (place, codes) in enumerate(fields):
+    frame = bytearray(row.length)
+    frame[0], frame[1] = row.opcode >> 8, row.opcode & 255
+    for at, (place, codes) in enumerate(row.fields):
         where = dump.bits(place)
         edge = r.random()
         value = chosen[at] if at in chosen else r.choice(list(codes)) if codes is not None else (

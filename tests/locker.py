@@ -10,13 +10,13 @@ from fractions import Fraction
 
 import dump
 
-ACTIONS = (8, 9, 10, 22, 23, 29, 30, 32, 36, 37)
-SETTINGS = [kind for kind in range(1, dump.KINDS + 1) if kind not in ACTIONS]  # by slot
-LENGTHS = {kind: length for kind, _, length, _ in dump.ROWS}
-FORMS = ((5, 6), (25, 26), (27, 28))
+SETTINGS = [row.kind for row in dump.ROWS if row.used != dump.ACTION]  # by slot
+LENGTHS = {row.kind: row.length for row in dump.ROWS}
+FORMS = tuple((row.used, row.kind) for row in dump.ROWS if row.used not in (dump.SETTING, dump.ACTION))  # the shorter one first
 # The layout: its version, and a slot for each offset of the header, behind which the frames start. A book has START to MOST bytes.
 VERSION, SLOTS = 1, 29
 START, MOST = 4 + 2 * SLOTS, 4096
+assert len(SETTINGS) <= SLOTS, "a setting has no slot"
 
 # Each width's code with its exact width in Hz.
 WIDTHS = {0: Fraction(15625, 2), 1: 15625, 2: 31250, 3: 62500, 4: 125000, 5: 250000, 6: 500000, 7: 1000000, 8: Fraction(10**6, 96),

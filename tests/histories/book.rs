@@ -1,5 +1,5 @@
 // The book as a plain list of frames, and the bytes that the format gives it. Written from the rules alone, without the source.
-use crate::model::{commands, decode, Decoded, KINDS};
+use crate::model::{commands, decode, Decoded, Use, ROWS};
 use crate::record::Record;
 
 #[derive(Clone, Copy, PartialEq)]
@@ -23,23 +23,71 @@ pub struct Frame {
     pub bytes: Vec<u8>,
 }
 
-// "Actions, never kept: 8, 9, 10, 22, 23, 29, 30, 32, 36, 37. The other 29 kinds are settings; slot numbers 0 to 28 follow kind order."
-pub const ACTIONS: [u64; 10] = [8, 9, 10, 22, 23, 29, 30, 32, 36, 37];
-pub const SETTINGS: [u64; KINDS as usize - ACTIONS.len()] =
-    [1, 2, 3, 4, 5, 6, 7, 11, 12, 13, 14, 15, 16, 17, 18, 19, 20, 21, 24, 25, 26, 27, 28, 31, 33, 34, 35, 38, 39];
+// What the rows of the model come to: how many settings there are, how many of them are a longer form, and the bytes of one frame of each setting,
+// in the longer form where there are two.
+struct Counts {
+    settings: usize,
+    pairs: usize,
+    bytes: usize,
+}
 
-// The kinds that are one setting in two lengths, the shorter form first.
-pub const FORMS: [(u64, u64); 3] = [(5, 6), (25, 26), (27, 28)];
+const COUNTS: Counts = {
+    let mut counts = Counts { settings: 0, pairs: 0, bytes: 0 };
+    let mut at = 0;
+    while at < ROWS.len() {
+        match ROWS[at].used {
+            Use::Action => {}
+            Use::Setting => counts = Counts { settings: counts.settings + 1, bytes: counts.bytes + ROWS[at].length, ..counts },
+            Use::LongerOf(shorter) => {
+                let more = ROWS[at].length - ROWS[shorter as usize - 1].length;
+                counts = Counts { settings: counts.settings + 1, pairs: counts.pairs + 1, bytes: counts.bytes + more };
+            }
+        }
+        at += 1;
+    }
+    counts
+};
 
-// The layout: its version, and how many slots there are. A header has an offset for each, and an owner table an entry; frames start behind the
-// header.
+// "Actions, never kept .. The other kinds are settings; slot numbers follow kind order." Of a pair of forms the shorter one is first.
+struct Lists {
+    actions: [u64; ROWS.len() - COUNTS.settings],
+    settings: [u64; COUNTS.settings],
+    forms: [(u64, u64); COUNTS.pairs],
+}
+
+const LISTS: Lists = {
+    let mut lists = Lists { actions: [0; ROWS.len() - COUNTS.settings], settings: [0; COUNTS.settings], forms: [(0, 0); COUNTS.pairs] };
+    let (mut at, mut slot, mut pair) = (0, 0, 0);
+    while at < ROWS.len() {
+        if let Use::Action = ROWS[at].used {
+            lists.actions[at - slot] = ROWS[at].kind;
+        } else {
+            lists.settings[slot] = ROWS[at].kind;
+            slot += 1;
+        }
+        if let Use::LongerOf(shorter) = ROWS[at].used {
+            lists.forms[pair] = (shorter, ROWS[at].kind);
+            pair += 1;
+        }
+        at += 1;
+    }
+    lists
+};
+
+pub const ACTIONS: [u64; ROWS.len() - COUNTS.settings] = LISTS.actions;
+pub const SETTINGS: [u64; COUNTS.settings] = LISTS.settings;
+pub const FORMS: [(u64, u64); COUNTS.pairs] = LISTS.forms;
+
+// The layout: its version, and how many slots there are, of which each setting has one. A header has an offset for each, and an owner table an
+// entry; frames start behind the header.
 pub const VERSION: u8 = 1;
 pub const SLOTS: usize = 29;
 pub const START: usize = 4 + 2 * SLOTS;
+const _: () = assert!(SETTINGS.len() <= SLOTS);
 
 // A book that holds every setting, in the longer form where there are two: its frames, their bytes together, its own length, that of its replay.
 pub const MOST_FRAMES: usize = SETTINGS.len() - FORMS.len();
-pub const MOST_BYTES: usize = 169;
+pub const MOST_BYTES: usize = COUNTS.bytes;
 pub const FULL: usize = START + MOST_BYTES;
 pub const FULL_REPLAY: usize = MOST_BYTES + MOST_FRAMES;
 

@@ -35,18 +35,12 @@ const ORDER: [(Name, &[(u8, u8)]); 5] = [
     (Name::Replay, &[(17, 12)]),
 ];
 
-const REASONS: [Wrong; 10] = [
-    Wrong::Fewer,
-    Wrong::More,
-    Wrong::Owner,
-    Wrong::Caller,
-    Wrong::Split(5),
-    Wrong::Split(25),
-    Wrong::Split(27),
-    Wrong::Quotas,
-    Wrong::Over(1),
-    Wrong::Over(2),
-];
+// Each way in which a table is wrong: of the pairs of forms, each split.
+fn reasons() -> Vec<Wrong> {
+    let mut all = vec![Wrong::Fewer, Wrong::More, Wrong::Owner, Wrong::Caller, Wrong::Quotas, Wrong::Over(1), Wrong::Over(2)];
+    all.extend(FORMS.iter().map(|forms| Wrong::Split(forms.0)));
+    all
+}
 
 // How the frames of a side come to fill its quota.
 #[derive(Clone, Copy, Debug, PartialEq, Eq, PartialOrd, Ord)]
@@ -360,7 +354,7 @@ fn owed() -> Vec<Met> {
         all.extend(order.iter().map(|(first, second)| Met::Before(call, *first, *second)));
         for side in [1, 2] {
             all.extend(std::iter::once(&0).chain(refusals).map(|refusal| Met::Answer(call, side, *refusal)));
-            all.extend(REASONS.map(|reason| Met::Alone(call, if reason == Wrong::Caller { 0 } else { side }, reason)));
+            all.extend(reasons().into_iter().map(|reason| Met::Alone(call, if reason == Wrong::Caller { 0 } else { side }, reason)));
         }
     }
     for side in [1, 2] {

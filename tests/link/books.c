@@ -11,26 +11,6 @@ static held list[SETTINGS + 1];
 static size_t count, size;
 static uint8_t book[4097], reel[HB_REPLAY_MAX];
 
-/* The kinds that are one setting in two lengths, the shorter form first. */
-static const uint8_t forms[PAIRS][2] = {{5, 6}, {25, 26}, {27, 28}};
-
-uint64_t other_form(uint64_t kind) {
-    for (size_t i = 0; i < PAIRS; i++)
-        for (size_t j = 0; j < 2; j++)
-            if (forms[i][j] == kind) return forms[i][1 - j];
-    return 0;
-}
-
-int slot(uint64_t kind) {
-    static const uint8_t actions[] = {8, 9, 10, 22, 23, 29, 30, 32, 36, 37};
-    int below = 0;
-    for (size_t i = 0; i < sizeof actions; i++) {
-        if (actions[i] == kind) return -1;
-        below += actions[i] < kind;
-    }
-    return kind < 1 || kind > KINDS ? -1 : (int)kind - 1 - below;
-}
-
 static size_t found(uint64_t kind) {
     size_t at = 0;
     while (at < count && list[at].kind != kind) at++;
@@ -158,7 +138,7 @@ static void replay(void) {
 /* Any kind; every third time one of two forms. */
 static const row *any_row(void) {
     uint64_t way = any(), which = way / 3;
-    return &rows[way % 3 ? which % KINDS : forms[which % PAIRS][which / PAIRS % 2] - 1u];
+    return way % 3 ? &rows[which % KINDS] : shorter_form(which % PAIRS) + which / PAIRS % 2;
 }
 
 static void history(size_t n) {
@@ -198,9 +178,12 @@ static void examples(void) {
     same("count", book[1], MOST_FRAMES);
     same("end", book[2] << 8 | book[3], FULL);
     for (size_t i = 0; i < KINDS; i++) put(rows[i].kind, rows[i].other);
-    take_out(39);
-    put(39, rows[38].frame);
-    same("offset of kind 39", book[60] << 8 | book[61], FULL - 10);
+    const row *last = &rows[KINDS - 1];
+    while (last->used == ACTION) last--;
+    const uint8_t *offset = book + 4 + 2 * slot(last->kind);
+    take_out(last->kind);
+    put(last->kind, last->frame);
+    same("offset of the last kind", offset[0] << 8 | offset[1], FULL - last->len);
     replay();
     same("the replay's length", hb_book_replay(book, size, reel, sizeof reel).value, FULL_REPLAY);
 }
@@ -208,9 +191,9 @@ static void examples(void) {
 /* Each form in the place of the other, first, in the middle and last, in a buffer that the longer one fills and in one that is a byte shorter. */
 static void swaps(void) {
     for (size_t i = 0; i < PAIRS * 3 * 2; i++) {
-        const row *shorter = &rows[forms[i / 6][0] - 1], *longer = shorter + 1, *others[] = {&rows[3], &rows[23]};
+        const row *shorter = shorter_form(i / 6), *longer = shorter + 1, *others[] = {&rows[3], &rows[23]};
         size_t place = i / 2 % 3, lacks = i % 2;
-        make(START + 3 + 6 + frame_of(0, longer->frame).len - lacks);
+        make(START + 3 + 6 + longer->len - lacks);
         for (size_t j = 0; j < 3; j++) {
             const row *r = j == place ? shorter : others[j - (j > place)];
             put(r->kind, r->frame);
@@ -252,7 +235,7 @@ static void refuses_all(uint32_t refusal) {
 /* A stored book with both forms, in either order, and one that has another fault too. */
 static void both_forms(void) {
     for (size_t i = 0; i < PAIRS * 2; i++) {
-        const row *first = &rows[forms[i / 2][i % 2] - 1], *last = &rows[forms[i / 2][1 - i % 2] - 1];
+        const row *first = shorter_form(i / 2) + i % 2, *last = shorter_form(i / 2) + 1 - i % 2;
         make(START + 38);
         put(first->kind, first->frame);
         put(4, "02 23 34");

@@ -1,47 +1,26 @@
 /* hb_checked and hb_decode: a good call of each kind, and every refusal with its place. */
 #include "link.h"
 
-const row rows[KINDS] = {
-    {1, "7 12 1 1 2", "02 20 7C 19", "02 20 CF 9D"},
-    {2, "52719 111 1 1 0", "02 21 CD EF 6F 06", "02 21 FF FF FF 07"},
-    {3, "239 1", "02 22 EF 01", "02 22 FF 01"},
-    {4, "52", "02 23 34", "02 23 FF"},
-    {5, "1 5 27379 13570903", "02 26 85 6A F3 CF 13 57", "02 26 87 FF FF FF FF FF"},
-    {6, "0 2 27379 13570903 26 4 14 172 69", "02 26 02 6A F3 CF 13 57 1A 4E AC 45", "02 26 87 FF FF FF FF FF 7F FF FF FF"},
-    {7, "239 1 3 1 5666970 196", "02 27 EF 13 01 56 78 9A C4", "02 27 FF 1F 10 FF FF FF FF"},
-    {8, "", "02 28", "02 28"},
-    {9, "", "02 29", "02 29"},
-    {10, "", "02 2A", "02 2A"},
-    {11, "4 9 80063993375475", "02 2B 49 F3 6A E2 59 D1 48 00 00", "02 2B 8F FF FF FF FF FF FF FF FF"},
-    {12, "15 19", "02 2D 0F 13", "02 2D 1F 1F"},
-    {13, "15 14 19 23 26 4", "02 2E 0F 0E 13 17 1A 04", "02 2E 1F 1F 1F 1F 1F 1F"},
-    {14, "1 6", "02 1D 46", "02 1D 8F"},
-    {15, "2 9 1 0 10", "02 1D A5 0A", "02 1D FF 1F"},
-    {16, "2309737967 9 35 13570903", "02 40 89 AB CD EF 09 23 CF 13 57", "02 40 FF FF FF FF 0F FF FF FF FF"},
-    {17, "52719 16 1 0 1 2 5534 4 1", "02 41 CD EF 10 16 15 9E 41", "02 41 FF FF 20 1B FF FF C1"},
-    {18, "1 3695", "02 42 1E 6F", "02 42 1F FF"},
-    {19, "2309737967 1011703407", "02 43 89 AB CD EF 3C 4D 5E 6F", "02 43 FF FF FF FF FF FF FF FF"},
-    {20, "81985529216486895 1 51", "02 44 01 23 45 67 89 AB CD EF B3", "02 44 FF FF FF FF FF FF FF FF C0"},
-    {21, "239 111", "02 45 EF 6F", "02 45 FF FF"},
-    {22, "", "02 46", "02 46"},
-    {23, "", "02 47", "02 47"},
-    {24, "2309737967", "02 00 89 AB CD EF", "02 00 FF FF FF FF"},
-    {25, "0", "02 01 00", "02 01 01"},
-    {26, "0 5", "02 01 00 05", "02 01 01 07"},
-    {27, "1 2 3 7", "02 02 B2 07", "02 02 F3 0F"},
-    {28, "0 1 5 9 26", "02 02 51 09 1A", "02 02 F3 0F 1F"},
-    {29, "11259375", "02 0C AB CD EF", "02 0C FF FF FF"},
-    {30, "11259375", "02 0D AB CD EF", "02 0D FF FF FF"},
-    {31, "0", "02 0F 00", "02 0F 01"},
-    {32, "11259375 5070447 0 5", "02 10 AB CD EF 4D 5E 6F 05", "02 10 FF FF FF FF FF FF 17"},
-    {33, "0 1 14838515 2328826711", "02 11 01 E2 6A F3 8A CF 13 57", "02 11 82 FF FF FF FF FF FF FF"},
-    {34, "11259375 5070447", "02 15 AB CD EF 4D 5E 6F", "02 15 FF FF FF FF FF FF"},
-    {35, "1 2", "02 16 12", "02 16 24"},
-    {36, "11259375", "02 18 AB CD EF", "02 18 FF FF FF"},
-    {37, "11259375 111", "02 18 AB CD EF 6F", "02 18 FF FF FF FF"},
-    {38, "9", "02 1A 09", "02 1A 0F"},
-    {39, "11259375 111 1 13570903", "02 1B AB CD EF 6F 01 CF 13 57", "02 1B FF FF FF FF 02 FF FF FF"},
-};
+#define AS_ROW(kind, used, args, frame, other, bits) [kind - 1] = {kind, sizeof frame / 3, used, args, frame, other, bits},
+const row rows[KINDS] = {ROWS(AS_ROW)};
+
+int slot(uint64_t kind) {
+    int below = 0;
+    if (kind < 1 || kind > KINDS || rows[kind - 1].used == ACTION) return -1;
+    for (const row *r = rows; r->kind < kind; r++) below += r->used != ACTION;
+    return below;
+}
+
+uint64_t other_form(uint64_t kind) {
+    if (slot(kind) < 0 || rows[kind - 1].used == SETTING) return 0;
+    return rows[kind - 1].used == SHORTER ? kind + 1 : kind - 1;
+}
+
+const row *shorter_form(size_t pair) {
+    const row *r = rows;
+    while (r->used != SHORTER || pair-- > 0) r++;
+    return r;
+}
 
 static void built(builder *build, uint64_t kind, const uint64_t *args, size_t n, const char *frame, uint32_t refusal, uint32_t place) {
     same_frame(build(kind, lend_const(args, 8 * n), n), frame, refusal, place);

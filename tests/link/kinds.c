@@ -2,13 +2,13 @@
 #include "hoardbutton.h"
 
 static const uint64_t none[1] = {0};
-static unsigned refused;
+static unsigned refused, built;
 
-/* Builds, and counts a frame that does not say its kind. */
+/* Builds the next kind, and counts one that is not the next and a frame that does not say its kind. */
 static void build(uint64_t kind, const uint64_t *args, size_t n) {
     hb_frame frame = hb_checked(kind, args, n);
     hb_decoded said = hb_decode(frame.bytes, frame.len);
-    if (frame.refusal != 0 || said.refusal != 0 || said.kind != kind || said.count != n) refused++;
+    if (kind != ++built || frame.refusal != 0 || said.refusal != 0 || said.kind != kind || said.count != n) refused++;
 }
 
 /* BUILD(KIND, ARGUMENTS..) */
@@ -73,5 +73,5 @@ int main(void) {
     lora();
     fsk();
     common();
-    return refused != 0;
+    return refused != 0 || built != HB_KINDS;
 }

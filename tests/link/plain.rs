@@ -1,4 +1,4 @@
-// hb_plain on any arguments: against a model (tests/oracle/model.rs, with the fields that overlap made whole again), and
+// hb_plain on any arguments: against a model (tests/oracle/model.rs, with the plain places of its fields), and
 // against the Rust's own builders where they are beside the repository.
 use super::*;
 
@@ -6,22 +6,11 @@ use super::*;
 #[path = "../oracle/builders.rs"]
 mod builders;
 
-// The bits of an argument; model.rs has the checked builder's, which three fields exceed.
-fn bits(kind: u64, i: usize, field: &model::Field) -> Vec<(usize, u32)> {
-    match (kind, i) {
-        (17, 3) => vec![(5, 4)],
-        (18, 1) => [3, 2].iter().flat_map(|byte| (0..8).map(move |bit| (*byte, bit))).collect(),
-        (27 | 28, 2) => (4..8).map(|bit| (2, bit)).collect(),
-        _ => field.bits.clone(),
-    }
-}
-
 // A code of its enum, yes or no, or any number: numbers have more than one bit.
-fn accepted(kind: u64, i: usize, field: &model::Field, v: u64) -> bool {
-    match field.codes {
-        _ if (kind, i) == (17, 3) => v < 2,
-        Some(codes) => codes.contains(&v),
-        None => v < 2 || field.bits.len() > 1,
+fn accepted(field: &model::Field, v: u64) -> bool {
+    match (field.codes, field.rust) {
+        (Some(_), Some(codes)) => codes.contains(&v),
+        _ => v < 2 || field.bits.len() > 1,
     }
 }
 
@@ -30,15 +19,15 @@ fn wanted(kind: u64, args: &[u64]) -> Built {
         Some(c) => c,
         None => return Built::Refused(13, 0),
     };
-    let is_good = |i: usize| i < c.fields.len() && i < args.len() && accepted(kind, i, &c.fields[i], args[i]);
+    let is_good = |i: usize| i < c.fields.len() && i < args.len() && accepted(&c.fields[i], args[i]);
     if let Some(i) = (0..c.fields.len().max(args.len())).find(|i| !is_good(*i)) {
         return Built::Refused(6, i as u8 + 1);
     }
     let mut frame = vec![0; c.length];
     frame[..2].copy_from_slice(&c.opcode);
     for (i, field) in c.fields.iter().enumerate() {
-        for (j, (byte, bit)) in bits(kind, i, field).into_iter().enumerate() {
-            frame[byte] |= ((args[i] >> j & 1) as u8) << bit;
+        for (j, (byte, bit)) in field.plain.iter().enumerate() {
+            frame[*byte] |= ((args[i] >> j & 1) as u8) << bit;
         }
     }
     Built::Frame(frame)

@@ -6,17 +6,6 @@ enum { MOST = 4096, LONGEST = 4200, ANSWERS = 12 };
 
 /* ---- a book's bytes a second time */
 
-/* Each setting by its slot: kind, the opcode's second byte, and the bits of the bytes behind the opcode that its arguments have. */
-static const struct {
-    uint8_t kind, opcode;
-    const char *bits;
-} settings[SETTINGS] = {{1, 0x20, "FF FF"}, {2, 0x21, "FF FF FF 07"}, {3, 0x22, "FF 01"}, {4, 0x23, "FF"}, {5, 0x26, "87 FF FF FF FF FF"},
-    {6, 0x26, "87 FF FF FF FF FF 7F FF FF FF"}, {7, 0x27, "FF 1F FF FF FF FF FF"}, {11, 0x2B, "FF FF FF FF FF FF FF FF FF"}, {12, 0x2D, "1F 1F"},
-    {13, 0x2E, "1F 1F 1F 1F 1F 1F"}, {14, 0x1D, "CF"}, {15, 0x1D, "FF 1F"}, {16, 0x40, "FF FF FF FF 0F FF FF FF FF"}, {17, 0x41, "FF FF FF 1F FF FF F1"},
-    {18, 0x42, "1F FF"}, {19, 0x43, "FF FF FF FF FF FF FF FF"}, {20, 0x44, "FF FF FF FF FF FF FF FF FF"}, {21, 0x45, "FF FF"}, {24, 0x00, "FF FF FF FF"},
-    {25, 0x01, "01"}, {26, 0x01, "01 07"}, {27, 0x02, "F3 0F"}, {28, 0x02, "F3 0F 1F"}, {31, 0x0F, "01"}, {33, 0x11, "83 FF FF FF FF FF FF FF"},
-    {34, 0x15, "FF FF FF FF FF FF"}, {35, 0x16, "3F"}, {38, 0x1A, "0F"}, {39, 0x1B, "FF FF FF FF 03 FF FF FF"}};
-
 /* Arguments that not all of their bits' numbers are good for: kind, byte of the frame, low bit, ones; and the codes. */
 static const struct {
     uint8_t kind, byte, low, ones;
@@ -39,23 +28,19 @@ static bool has_codes(uint8_t kind, const uint8_t *frame) {
     return kind != 20 || frame[10] % 128 <= 64;
 }
 
-/* Whether the bytes are a frame of that slot's kind; they end where such a frame does. */
-static bool decodes(size_t s, const uint8_t *frame) {
-    uint8_t bits[12];
-    size_t n = hex(settings[s].bits, bits);
-    if (frame[0] != 2 || frame[1] != settings[s].opcode) return false;
-    for (size_t i = 0; i < n; i++)
-        if (frame[2 + i] & ~bits[i]) return false;
-    return has_codes(settings[s].kind, frame);
+/* Whether the bytes are a frame of that kind; they end where such a frame does. */
+static bool decodes(const row *r, const uint8_t *frame) {
+    uint8_t opcode[12], bits[12];
+    hex(r->frame, opcode);
+    hex(r->bits, bits);
+    if (frame[0] != opcode[0] || frame[1] != opcode[1]) return false;
+    for (size_t i = 2; i < r->len; i++)
+        if (frame[i] & ~bits[i - 2]) return false;
+    return has_codes(r->kind, frame);
 }
 
 static size_t word(const uint8_t *at) {
     return at[0] << 8 | at[1];
-}
-
-static size_t length_of(size_t s) {
-    uint8_t bits[12];
-    return 2 + hex(settings[s].bits, bits);
 }
 
 /* Where the frame of a kind begins; 0 where there is none. */
@@ -66,12 +51,12 @@ static size_t offset_of(const uint8_t *book, uint64_t kind) {
 /* Each byte between head and end belongs to one frame, and each frame is of its slot's kind. */
 static bool is_tiled(const uint8_t *book, size_t end) {
     bool taken[LONGEST] = {false};
-    size_t count = 0;
-    for (size_t s = 0; s < SETTINGS; s++) {
-        size_t at = word(book + 4 + 2 * s);
+    size_t count = 0, slots = 0;
+    for (const row *r = rows; r < rows + KINDS; r++) {
+        size_t at = r->used == ACTION ? 0 : word(book + 4 + 2 * slots++);
         if (!at) continue;
-        if (at < START || at + length_of(s) > end || !decodes(s, book + at)) return false;
-        for (size_t i = at; i < at + length_of(s); i++) {
+        if (at < START || at + r->len > end || !decodes(r, book + at)) return false;
+        for (size_t i = at; i < at + r->len; i++) {
             if (taken[i]) return false;
             taken[i] = true;
         }
@@ -84,14 +69,13 @@ static bool is_tiled(const uint8_t *book, size_t end) {
 
 /* 11, 10 or 16, or 0 for a book that calls take. */
 static uint32_t fault(const uint8_t *book, size_t n) {
-    static const uint8_t forms[PAIRS][2] = {{5, 6}, {25, 26}, {27, 28}};
     if (n < START || n > MOST) return 11;
     size_t end = word(book + 2);
     if (book[0] != VERSION || end < START || end > n || !is_tiled(book, end)) return 10;
     for (size_t i = end; i < n; i++)
         if (book[i]) return 10;
     for (size_t i = 0; i < PAIRS; i++)
-        if (offset_of(book, forms[i][0]) && offset_of(book, forms[i][1])) return 16;
+        if (offset_of(book, shorter_form(i)->kind) && offset_of(book, shorter_form(i)[1].kind)) return 16;
     return 0;
 }
 
@@ -218,20 +202,20 @@ static void good_list(void) {
 /* A good book in buffers of every length; and with both forms of a setting, with and without the kinds that count. */
 static void buffers(void) {
     static uint8_t book[LONGEST];
-    static const uint8_t forms[PAIRS] = {5, 25, 27};
     good_list();
     written(book, sizeof book);
     for (size_t n = 0; n <= sizeof book; n++) {
         trying("hb_profile", "length", n);
         same_answer(tried(book, n), n < START || n > MOST ? 11 : n < START + 13 ? 10 : 0, 0, 0);
     }
-    for (size_t i = 0; i < 2 * sizeof forms; i++) {
+    for (size_t i = 0; i < 2 * PAIRS; i++) {
+        const row *shorter = shorter_form(i / 2), *longer = shorter + 1;
         good_list();
         list.count = i % 2 ? 3 : 1;
-        add(forms[i / 2], rows[forms[i / 2] - 1].frame);
-        add(forms[i / 2] + 1u, rows[forms[i / 2]].frame);
+        add(shorter->kind, shorter->frame);
+        add(longer->kind, longer->frame);
         written(book, START + 58);
-        trying("hb_profile", "both forms", forms[i / 2]);
+        trying("hb_profile", "both forms", shorter->kind);
         same_answer(tried(book, START + 58), 16, 0, 0);
         book[START + 57] = 1;
         same_answer(tried(book, START + 58), 10, 0, 0);

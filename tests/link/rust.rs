@@ -74,19 +74,10 @@ mod enums {
 }
 
 #[cfg(source)]
-#[path = "../../target/lr2021/status.rs"]
-mod status;
+#[path = "../oracle/driver.rs"]
+mod driver;
 #[cfg(source)]
-#[path = "../../target/lr2021/cmd"]
-mod cmd {
-    pub mod cmd_common;
-    pub mod cmd_fsk;
-    pub mod cmd_lora;
-    pub mod cmd_system;
-}
-// What the Rust's lib.rs declares and status.rs uses.
-#[derive(Debug, Clone, Copy)]
-pub enum Lr2021Error { Pin, Spi, CmdFail, CmdErr, BusyTimeout, InvalidSize, Unknown }
+use driver::{cmd, status, Lr2021Error};
 
 use book::{FULL, FULL_REPLAY, SLOTS, START, VERSION};
 use hoardbutton as hb;

@@ -173,7 +173,7 @@ static void replay(uint64_t caller) {
 static void fsk_is_the_operators(void) {
     memset(owners, 1, entries = SLOTS);
     for (uint64_t kind = 1; kind <= KINDS; kind++)
-        if (slot(kind) >= 0) owners[slot(kind)] = kind >= 16 && kind <= 21 ? 2 : 1;
+        if (slot(kind) >= 0) owners[slot(kind)] = kind >= HB_SET_FSK_MODULATION_PARAMS && kind <= HB_SET_FSK_ADDRESS ? 2 : 1;
 }
 
 /* Each has filled its quota: 13 bytes, and 15. */

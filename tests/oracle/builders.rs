@@ -1,8 +1,9 @@
 // The plain builders: what arguments each kind takes, and the frame that the Rust builds of them.
 #[cfg(source)]
 use crate::cmd::{cmd_common::*, cmd_fsk::*, cmd_lora::*};
+#[cfg(source)]
 use crate::enums::*;
-use crate::model::KINDS;
+use crate::model::{commands, Field, KINDS};
 
 // A request for a plain builder has the kind as its operation, 1 to this one.
 pub const LAST: u8 = KINDS as u8;
@@ -14,74 +15,17 @@ pub enum Argument {
     Number { field: u32, width: u32 },
 }
 
-use Argument::Codes;
-
-const YES_NO: Argument = Codes(&[0, 1]);
-
-const fn number(field: u32, width: u32) -> Argument {
-    Argument::Number { field, width }
-}
-
-const BYTE: Argument = number(8, 8);
-const HALF: Argument = number(16, 16);
-const WORD: Argument = number(32, 32);
-const LONG: Argument = number(64, 64);
-// Three bytes of a frame, from an u32.
-const TIME: Argument = number(24, 32);
-
-const fn low(field: u32) -> Argument {
-    number(field, 8)
-}
-
 // The arguments of a kind, in the Rust's order.
 pub fn arguments(kind: u8) -> Vec<Argument> {
-    match kind {
-        1 => vec![Codes(SF), Codes(LORA_BW), Codes(LORA_CR), Codes(LDRO), Codes(LORA_FILTER)],
-        2 => vec![HALF, BYTE, Codes(HEADER_TYPE), YES_NO, YES_NO],
-        3 => vec![BYTE, Codes(TIMEOUT_FORMAT)],
-        4 => vec![BYTE],
-        5 => vec![YES_NO, low(3), HALF, TIME],
-        6 => vec![YES_NO, low(3), HALF, TIME, low(7), low(4), low(4), BYTE, BYTE],
-        7 => vec![BYTE, YES_NO, low(4), Codes(LORA_EXIT_MODE), TIME, BYTE],
-        8 | 9 | 10 => vec![],
-        11 => vec![Codes(ADDR_LEN), low(4), LONG],
-        12 => vec![low(5); 2],
-        13 => vec![low(5); 6],
-        14 => vec![Codes(TIMING_SYNC_MODE), Codes(DIO_NUM)],
-        15 => vec![low(2), low(4), low(2), YES_NO, low(4)],
-        16 => vec![WORD, Codes(PULSE_SHAPE), Codes(RX_BW), TIME],
-        17 => vec![
-            HALF,
-            Codes(PBL_LEN_DETECT),
-            YES_NO,
-            Codes(PLD_LEN_UNIT),
-            Codes(ADDR_COMP),
-            Codes(FSK_PKT_FORMAT),
-            HALF,
-            Codes(CRC),
-            YES_NO,
-        ],
-        18 => vec![Codes(WHITEN_TYPE), HALF],
-        19 => vec![WORD, WORD],
-        20 => vec![LONG, Codes(BIT_ORDER), low(7)],
-        21 => vec![BYTE, BYTE],
-        22 | 23 => vec![],
-        24 => vec![WORD],
-        25 => vec![Codes(RX_PATH)],
-        26 => vec![Codes(RX_PATH), Codes(RX_BOOST)],
-        27 => vec![Codes(PA_SEL), Codes(PA_LF_MODE), low(4), low(4)],
-        28 => vec![Codes(PA_SEL), Codes(PA_LF_MODE), low(4), low(4), low(5)],
-        29 | 30 => vec![TIME],
-        31 => vec![Codes(PA_SEL)],
-        32 => vec![TIME, TIME, YES_NO, low(3)],
-        33 => vec![YES_NO, Codes(AUTO_TXRX_MODE), TIME, WORD],
-        34 => vec![TIME, TIME],
-        35 => vec![Codes(TIMESTAMP_INDEX), Codes(TIMESTAMP_SOURCE)],
-        36 => vec![TIME],
-        37 => vec![TIME, BYTE],
-        38 => vec![low(4)],
-        39 => vec![TIME, BYTE, Codes(EXIT_MODE), TIME],
-        _ => panic!("{} is no kind", kind),
+    commands()[kind as usize - 1].fields.iter().map(argument).collect()
+}
+
+// One bit without an enum is a yes or no. A number's type is the least that has its bits; `frame` holds that to the Rust's.
+fn argument(field: &Field) -> Argument {
+    match (field.rust, field.plain.len() as u32) {
+        (Some(codes), _) => Argument::Codes(codes),
+        (None, 1) => Argument::Codes(&[0, 1]),
+        (None, bits) => Argument::Number { field: bits, width: bits.next_power_of_two().max(8) },
     }
 }
 
@@ -90,12 +34,18 @@ fn yes(x: u64) -> bool {
     x != 0
 }
 
-// The frame of a kind. Every argument fits its Rust type, so no cast loses a bit.
+// The frame of a kind. Every argument has the width of its Rust type, so no cast loses a bit.
 #[cfg(source)]
 pub fn frame(kind: u8, a: &[u64; 9]) -> Vec<u8> {
-    let b = |i: usize| a[i] as u8;
-    let h = |i: usize| a[i] as u16;
-    let w = |i: usize| a[i] as u32;
+    let takes = arguments(kind);
+    let number = |i: usize, bits: u32| match takes[i] {
+        Argument::Number { width, .. } if width == bits => a[i],
+        _ => panic!("argument {} of kind {} is no number of {} bits", i, kind, bits),
+    };
+    let b = |i: usize| number(i, 8) as u8;
+    let h = |i: usize| number(i, 16) as u16;
+    let w = |i: usize| number(i, 32) as u32;
+    let l = |i: usize| number(i, 64);
     match kind {
         1 => set_lora_modulation_params_cmd(sf(a[0]), lora_bw(a[1]), lora_cr(a[2]), ldro(a[3]), lora_filter(a[4])).to_vec(),
         2 => set_lora_packet_params_cmd(h(0), b(1), header_type(a[2]), yes(a[3]), yes(a[4])).to_vec(),
@@ -107,7 +57,7 @@ pub fn frame(kind: u8, a: &[u64; 9]) -> Vec<u8> {
         8 => set_lora_cad_cmd().to_vec(),
         9 => get_lora_rx_stats_req().to_vec(),
         10 => get_lora_packet_status_req().to_vec(),
-        11 => set_lora_address_cmd(addr_len(a[0]), b(1), a[2]).to_vec(),
+        11 => set_lora_address_cmd(addr_len(a[0]), b(1), l(2)).to_vec(),
         12 => set_lora_syncword_extended_cmd(b(0), b(1)).to_vec(),
         13 => set_lora_side_det_syncword_extended_cmd(b(0), b(1), b(2), b(3), b(4), b(5)).to_vec(),
         14 => set_lora_tx_sync_cmd(timing_sync_mode(a[0]), dio_num(a[1])).to_vec(),
@@ -127,7 +77,7 @@ pub fn frame(kind: u8, a: &[u64; 9]) -> Vec<u8> {
         .to_vec(),
         18 => set_fsk_whitening_params_cmd(whiten_type(a[0]), h(1)).to_vec(),
         19 => set_fsk_crc_params_cmd(w(0), w(1)).to_vec(),
-        20 => set_fsk_sync_word_cmd(a[0], bit_order(a[1]), b(2)).to_vec(),
+        20 => set_fsk_sync_word_cmd(l(0), bit_order(a[1]), b(2)).to_vec(),
         21 => set_fsk_address_cmd(b(0), b(1)).to_vec(),
         22 => get_fsk_rx_stats_req().to_vec(),
         23 => get_fsk_packet_status_req().to_vec(),

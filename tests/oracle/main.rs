@@ -8,19 +8,6 @@
 //   oracle differ REQUESTS ANSWERS OTHERS   prints the first request whose answers differ
 #![allow(unknown_lints, unexpected_cfgs, dead_code)]
 
-#[cfg(source)]
-#[path = "../../target/lr2021/status.rs"]
-mod status;
-
-#[cfg(source)]
-#[path = "../../target/lr2021/cmd"]
-mod cmd {
-    pub mod cmd_common;
-    pub mod cmd_fsk;
-    pub mod cmd_lora;
-    pub mod cmd_system;
-}
-
 mod answers;
 mod banks;
 #[path = "../histories/book.rs"]
@@ -30,6 +17,8 @@ mod coded;
 #[cfg(source)]
 #[path = "../histories/enums.rs"]
 mod codes;
+#[cfg(source)]
+mod driver;
 #[cfg(source)]
 mod enums;
 #[cfg(not(source))]
@@ -47,17 +36,8 @@ mod shown;
 mod texts;
 mod widths;
 
-// What the Rust's lib.rs declares and status.rs uses.
-#[derive(Debug, Clone, Copy)]
-pub enum Lr2021Error {
-    Pin,
-    Spi,
-    CmdFail,
-    CmdErr,
-    BusyTimeout,
-    InvalidSize,
-    Unknown,
-}
+#[cfg(source)]
+use driver::{cmd, status, Lr2021Error};
 
 pub const REQUEST: usize = 112;
 pub const HEAD: usize = 4;
@@ -72,12 +52,11 @@ fn as_the_rust() {
         codes.sort();
         codes
     }
-    macro_rules! same {
-        ($($name:ident)+) => { $(assert_eq!(sorted(codes::$name), sorted(enums::$name), "the codes of {}", stringify!($name));)+ };
+    assert_eq!(codes::ENUMS.len(), enums::ENUMS.len(), "the number of enums");
+    for (name, listed) in codes::ENUMS {
+        let rust = enums::ENUMS.iter().find(|(other, _)| other == name).map(|(_, codes)| sorted(codes));
+        assert_eq!(Some(sorted(listed)), rust, "the codes of {}", name);
     }
-    same!(SF LORA_BW LORA_CR LDRO LORA_FILTER HEADER_TYPE TIMEOUT_FORMAT LORA_EXIT_MODE ADDR_LEN TIMING_SYNC_MODE DIO_NUM);
-    same!(PULSE_SHAPE RX_BW PBL_LEN_DETECT PLD_LEN_UNIT ADDR_COMP FSK_PKT_FORMAT CRC WHITEN_TYPE BIT_ORDER);
-    same!(RX_PATH RX_BOOST PA_SEL PA_LF_MODE AUTO_TXRX_MODE TIMESTAMP_INDEX TIMESTAMP_SOURCE EXIT_MODE);
     for code in 0..=255 {
         assert_eq!(answers::tenths(code), answers::rust::tenths_by_name(code), "the width of code {}", code);
     }

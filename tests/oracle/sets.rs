@@ -1,11 +1,12 @@
 // The requests: the wide set and the sample. Both are the same on every run: the random numbers have a fixed seed.
 use crate::answers::{answer, is_the_rusts};
 use crate::banks::banks;
-use crate::builders::{arguments, Argument, LAST};
+use crate::builders::{arguments, Argument};
 use crate::coded::codec;
 use crate::enums::{LORA_BW, LORA_CR, SF};
 use crate::frames;
 use crate::lockers::{any_book, Lora, COMBINATIONS};
+use crate::model::{FILES, KINDS};
 use crate::profile::{place_among_answers, said, ANSWERS};
 use crate::{ANSWER, HEAD, PAYLOAD, REQUEST};
 use std::fs::File;
@@ -62,13 +63,17 @@ pub struct Set {
 // How many requests the Rust answered, and our model; and how many were left out.
 #[derive(Default)]
 struct Group {
-    name: &'static str,
+    name: String,
     rust: usize,
     model: usize,
     left: usize,
 }
 
 impl Group {
+    fn named(name: &str) -> Group {
+        Group { name: name.to_string(), ..Group::default() }
+    }
+
     // Takes note of a request, and tells whether it has an answer.
     fn count(&mut self, op: u8, aux: u8, is_answered: bool) -> bool {
         *match (is_answered, is_the_rusts(op, aux)) {
@@ -94,8 +99,8 @@ impl Set {
         })
     }
 
-    pub fn group(&mut self, name: &'static str) {
-        self.groups.push(Group { name, ..Group::default() });
+    pub fn group(&mut self, name: &str) {
+        self.groups.push(Group::named(name));
     }
 
     fn ask(&mut self, op: u8, aux: usize, payload: &[u8; PAYLOAD]) -> Result<()> {
@@ -130,7 +135,7 @@ impl Set {
         self.requests.flush()?;
         self.answers.flush()?;
         println!("     Rust     model  left out");
-        let mut all = Group { name: "in all", ..Group::default() };
+        let mut all = Group::named("in all");
         for group in &self.groups {
             group.print();
             all = Group { rust: all.rust + group.rust, model: all.model + group.model, left: all.left + group.left, ..all };
@@ -260,23 +265,25 @@ fn some(set: &mut Set, kind: u8, takes: &[Argument]) -> Result<()> {
     Ok(())
 }
 
+fn builder(set: &mut Set, kind: u8, is_wide: bool) -> Result<()> {
+    let takes = arguments(kind);
+    let all = product(takes.iter().map(size));
+    if all <= if is_wide { ALL } else { FEW as u64 } {
+        every(set, kind, &takes)
+    } else if is_wide {
+        edges(set, kind, &takes)?;
+        mixed(set, kind, &takes)
+    } else {
+        some(set, kind, &takes)
+    }
+}
+
 fn builders(set: &mut Set, is_wide: bool) -> Result<()> {
-    for kind in 1..=LAST {
-        match kind {
-            1 => set.group("builders of cmd_lora.rs, kinds 1 to 15"),
-            16 => set.group("builders of cmd_fsk.rs, kinds 16 to 23"),
-            24 => set.group("builders of cmd_common.rs, kinds 24 to 39"),
-            _ => {}
-        }
-        let takes = arguments(kind);
-        let all = product(takes.iter().map(size));
-        if all <= if is_wide { ALL } else { FEW as u64 } {
-            every(set, kind, &takes)?;
-        } else if is_wide {
-            edges(set, kind, &takes)?;
-            mixed(set, kind, &takes)?;
-        } else {
-            some(set, kind, &takes)?;
+    for (at, (file, first)) in FILES.iter().enumerate() {
+        let last = FILES.get(at + 1).map_or(KINDS, |(_, next)| next - 1);
+        set.group(&format!("builders of {}.rs, kinds {} to {}", file, first, last));
+        for kind in *first..=last {
+            builder(set, kind as u8, is_wide)?;
         }
     }
     Ok(())
@@ -488,7 +495,7 @@ pub fn sample(requests: &str, answers: &str) -> Result<()> {
 // Holds stored answers to those of the Rust and the model, as far as they are at hand.
 pub fn stored(requests: &str, answers: &str) -> Result<()> {
     let (requests, answers) = (std::fs::read(requests)?, std::fs::read(answers)?);
-    let mut all = Group { name: "stored", ..Group::default() };
+    let mut all = Group::named("stored");
     for (i, (request, stored)) in requests.chunks_exact(REQUEST).zip(answers.chunks_exact(ANSWER)).enumerate() {
         let (op, aux) = (request[0], request[1]);
         let ours = answer(op, aux, request[HEAD..].try_into().expect("a payload"));

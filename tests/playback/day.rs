@@ -124,7 +124,7 @@ impl Day {
         self.answered = false;
         self.latest = match kind {
             0 => Latest::Undecodable,
-            9 | 10 | 22 | 23 => Latest::Request(kind),
+            _ if REQUESTS.iter().any(|(request, _)| *request == kind) => Latest::Request(kind),
             _ if slot(kind).is_some() => Latest::Setting,
             _ => Latest::Action,
         };
