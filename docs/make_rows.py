@@ -110,8 +110,8 @@ def twin(data, k):
 def head_constant(data, k):
     n, other = k["kind"], twin(data, k)
     said = "pub const HEAD_%d: u32 =" % n
-    sum_of = [hexed((n - 1) << 20, 8), "ROW_%d[1] * 0x1_0000" % n] + (["ROW_%d[1] * 0x1000" % other["kind"]] if other else [])
-    value = " + ".join(sum_of + ["ROW_%d[3] * 0x100" % n, "ROW_%d[2];" % n])
+    sum_of = [hexed((n - 1) << 20, 8), "ROW_%d[2] * 0x1000" % n, "ROW_%d[3] * 0x100" % n, "ROW_%d[1] * 0x10" % n]
+    value = " + ".join(sum_of + (["ROW_%d[1]" % other["kind"]] if other else [])) + ";"
     return [said + " " + value] if len(said) + 1 + len(value) <= SOURCE_LINE else (said + " " + value).replace(" +", "\n    +").split("\n")
 
 
@@ -138,8 +138,8 @@ def table_rows(data):
     out += ["    ROW_%d," % k["kind"] for k in data["kinds"]] + ["];", ""]
     out += ["// The kinds that are one setting in two lengths, the shorter form first."]
     out += call("pub const FORMS: [[u64; 2]; PAIRS] = [", ["[%d, %d]" % tuple(pair) for pair in data["forms"]], "];", "")
-    out += ["", "// HEAD_k is what the code wants of row k beside its fields (specs/Heads.antt). In hex: two digits for the row's place, one for its length,",
-            "// one for the next row's length where that has the same opcode, one for the number of fields, two for the slot."]
+    out += ["", "// HEAD_k is what the code wants of row k beside its fields (specs/Heads.antt). In hex: two digits for the row's place, two for the",
+            "// slot, the number of fields, the length, and the length of the next row where that has the same opcode."]
     return out + constants(["\n".join(head_constant(data, k)) for k in data["kinds"]])
 
 
@@ -280,8 +280,8 @@ def nth(word, n):
 class Arm:
     """What the proof of a reader says of one of its rows: what the calls of its arm ask (`asks`) and what the last of them gives (`gives`)."""
 
-    def __init__(self, at, kinds, index):
-        self.kind, self.index, self.at = kinds[index], index, at
+    def __init__(self, kinds, index):
+        self.kind, self.index = kinds[index], index
         self.is_last, self.is_long = index == len(kinds) - 1, self.kind["length"] > WORD
         self.whole = whole(self.kind)
         self.firsts = sum(k["length"] > WORD for k in kinds[:index + 1])
@@ -336,7 +336,7 @@ def reader_proof(name, at, kinds):
             "end s h = omega (arith, past %d %d (s .args .i) (s .pre .0) h, s .pre .1)" % (at, end), "",
             "pub read-%s-spec : {M : Type 1} → statement M" % name, "unfolding rowAt firstWord onlyWide narrowOf sound", "read-%s-spec =" % name,
             "    tie.close", "    (tie.spec"]
-    told = [Arm(at, kinds, i) for i in range(len(kinds))]
+    told = [Arm(kinds, i) for i in range(len(kinds))]
     said = [line for arm in told for line in arm.asks()] + [line for arm in told for line in arm.gives()]
     return out + said[:-1] + [said[-1] + ")"]
 

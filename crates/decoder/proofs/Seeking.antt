@@ -24,8 +24,8 @@ use Rattle.decoder.specs.Decoding.{known, sought}
 -- what the code makes of a seat
 unfoldable pub seated : ℕ → ℕ → Sought
 seated s l =
-    cond (eqb (s / 65536 % 16) 0) UnknownOpcode
-    (cond (eqb (s / 65536 % 16) l) (Row (s / 1048576)) (cond (eqb (s / 4096 % 16) l) (Row (s / 1048576 + 1)) WrongLength))
+    cond (eqb (s / 16 % 16) 0) UnknownOpcode
+    (cond (eqb (s / 16 % 16) l) (Row (s / 1048576)) (cond (eqb (s % 16) l) (Row (s / 1048576 + 1)) WrongLength))
 
 -- ---- opcodes of no row
 
@@ -194,9 +194,9 @@ module _ (o l : ℕ) (two : 2 ≤ l) where
         let b : ℕ = lengthFor o (getD rows (suc (f .at)) []) in
         let s : ℕ = seatOf o in
         let e : s ≡ headFor (f .at) = f .seat ∙ ap (λ (k : ℕ). headOf k (getD rows (f .at) []) (getD rows (suc (f .at)) [])) (from-zero (f .at)) in
-        let p : s / 65536 % 16 ≡ a = ap (λ (x : ℕ). x / 65536 % 16) e ∙ head-length (f .at) h in
-        let q : s / 4096 % 16 ≡ b =
-        ap (λ (x : ℕ). x / 4096 % 16) e ∙ head-next (f .at) h ∙ ap (λ (x : ℕ). lengthFor x (getD rows (suc (f .at)) [])) (f .has) in
+        let p : s / 16 % 16 ≡ a = ap (λ (x : ℕ). x / 16 % 16) e ∙ head-length (f .at) h in
+        let q : s % 16 ≡ b =
+        ap (λ (x : ℕ). x % 16) e ∙ head-next (f .at) h ∙ ap (λ (x : ℕ). lengthFor x (getD rows (suc (f .at)) [])) (f .has) in
         let some : a ≡ 0 → ⊥ = (λ z. omega (arith, r .least)) in
         simp (p, q, ne-eqb a 0 some, ne-eqb a l (no-row (f .at) h (f .has)), ne-eqb b l (n .1))
 
@@ -226,20 +226,20 @@ module _ (o l : ℕ) (two : 2 ≤ l) where
     whole : seated s l ≡ sought o l
     whole = ap (λ (x : ℕ). seated x l) es ∙ seat-is
 
-    pub seat-empty : s / 65536 % 16 ≡ 0 → UnknownOpcode ≡ sought o l
+    pub seat-empty : s / 16 % 16 ≡ 0 → UnknownOpcode ≡ sought o l
     unfolding seated
-    seat-empty e = sym (simp (eq-eqb (s / 65536 % 16) 0 e)) ∙ whole
+    seat-empty e = sym (simp (eq-eqb (s / 16 % 16) 0 e)) ∙ whole
 
-    module _ (some : s / 65536 % 16 ≡ 0 → ⊥) where
-      pub seat-first : s / 65536 % 16 ≡ l → Row (s / 1048576) ≡ sought o l
+    module _ (some : s / 16 % 16 ≡ 0 → ⊥) where
+      pub seat-first : s / 16 % 16 ≡ l → Row (s / 1048576) ≡ sought o l
       unfolding seated
-      seat-first e = sym (simp (ne-eqb (s / 65536 % 16) 0 some, eq-eqb (s / 65536 % 16) l e)) ∙ whole
+      seat-first e = sym (simp (ne-eqb (s / 16 % 16) 0 some, eq-eqb (s / 16 % 16) l e)) ∙ whole
 
-      module _ (other : s / 65536 % 16 ≡ l → ⊥) where
-        pub seat-second : s / 4096 % 16 ≡ l → Row (s / 1048576 + 1) ≡ sought o l
+      module _ (other : s / 16 % 16 ≡ l → ⊥) where
+        pub seat-second : s % 16 ≡ l → Row (s / 1048576 + 1) ≡ sought o l
         unfolding seated
-        seat-second e = sym (simp (ne-eqb (s / 65536 % 16) 0 some, ne-eqb (s / 65536 % 16) l other, eq-eqb (s / 4096 % 16) l e)) ∙ whole
+        seat-second e = sym (simp (ne-eqb (s / 16 % 16) 0 some, ne-eqb (s / 16 % 16) l other, eq-eqb (s % 16) l e)) ∙ whole
 
-        pub seat-other : (s / 4096 % 16 ≡ l → ⊥) → WrongLength ≡ sought o l
+        pub seat-other : (s % 16 ≡ l → ⊥) → WrongLength ≡ sought o l
         unfolding seated
-        seat-other d = sym (simp (ne-eqb (s / 65536 % 16) 0 some, ne-eqb (s / 65536 % 16) l other, ne-eqb (s / 4096 % 16) l d)) ∙ whole
+        seat-other d = sym (simp (ne-eqb (s / 16 % 16) 0 some, ne-eqb (s / 16 % 16) l other, ne-eqb (s % 16) l d)) ∙ whole

@@ -355,13 +355,13 @@ fn seek(op: u64, len: usize) -> Sought
     ensures { λ r. ⌜ r ≡ sought op len ⌝ }
 {
     let seat = u32_as_usize(seats::seat_of(op));
-    if seat / 0x1_0000 % 16 == 0 {
+    if seat / 16 % 16 == 0 {
         return Sought::UnknownOpcode;
     }
-    if seat / 0x1_0000 % 16 == len {
+    if seat / 16 % 16 == len {
         return Sought::Row(seat / 0x10_0000);
     }
-    if seat / 0x1000 % 16 == len {
+    if seat % 16 == len {
         return Sought::Row(seat / 0x10_0000 + 1);
     }
     Sought::WrongLength

@@ -14,7 +14,7 @@ pub fn slot_for(kind: u64) -> usize
 {
     if 0 < kind {
         if kind <= table::KINDS {
-            return (table::head_at((kind - 1) as usize) % 256) as usize;
+            return (table::head_at((kind - 1) as usize) / 0x1000 % 256) as usize;
         }
     }
     NO_SLOT
@@ -22,7 +22,7 @@ pub fn slot_for(kind: u64) -> usize
 
 // The head of the row that has a slot; 0 where no setting has it.
 fn head_of(slot: usize) -> u32
-    ensures { λ r. ⌜ r / 65536 % 16 ≡ sizeOf slot ⌝ }
+    ensures { λ r. ⌜ r / 16 % 16 ≡ sizeOf slot ⌝ }
 {
     match slot {
         // from commands.json: head_of
@@ -64,7 +64,7 @@ fn head_of(slot: usize) -> u32
 pub fn size_of(slot: usize) -> usize
     ensures { λ r. ⌜ (r ≡ sizeOf slot) × (r ≤ 12) ⌝ }
 {
-    (head_of(slot) / 0x1_0000 % 16) as usize
+    (head_of(slot) / 16 % 16) as usize
 }
 
 // The slot of a frame; NO_SLOT where it is an action's, or does not decode.

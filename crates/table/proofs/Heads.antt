@@ -17,22 +17,22 @@ pub head-place : (k : ℕ) → k < kinds → headFor k / 1048576 ≡ k
 unfolding below
 head-place = every (λ k. headFor k / 1048576) (λ k. k) tt
 
-pub head-length : (k : ℕ) → k < kinds → headFor k / 65536 % 16 ≡ lenOf (getD rows k [])
+pub head-length : (k : ℕ) → k < kinds → headFor k / 16 % 16 ≡ lenOf (getD rows k [])
 unfolding below
-head-length = every (λ k. headFor k / 65536 % 16) (λ k. lenOf (getD rows k [])) tt
+head-length = every (λ k. headFor k / 16 % 16) (λ k. lenOf (getD rows k [])) tt
 
-pub head-next : (k : ℕ) → k < kinds → headFor k / 4096 % 16 ≡ lengthFor (opOf (getD rows k [])) (getD rows (suc k) [])
+pub head-next : (k : ℕ) → k < kinds → headFor k % 16 ≡ lengthFor (opOf (getD rows k [])) (getD rows (suc k) [])
 unfolding below
-head-next = every (λ k. headFor k / 4096 % 16) (λ k. lengthFor (opOf (getD rows k [])) (getD rows (suc k) [])) tt
+head-next = every (λ k. headFor k % 16) (λ k. lengthFor (opOf (getD rows k [])) (getD rows (suc k) [])) tt
 
 pub head-count : (k : ℕ) → k < kinds → headFor k / 256 % 16 ≡ countOf (getD rows k [])
 unfolding below
 head-count = every (λ k. headFor k / 256 % 16) (λ k. countOf (getD rows k [])) tt
 
-pub head-slot : (k : ℕ) → k < kinds → headFor k % 256 ≡ slotOf (getD rows k [])
+pub head-slot : (k : ℕ) → k < kinds → headFor k / 4096 % 256 ≡ slotOf (getD rows k [])
 unfolding below
-head-slot = every (λ k. headFor k % 256) (λ k. slotOf (getD rows k [])) tt
+head-slot = every (λ k. headFor k / 4096 % 256) (λ k. slotOf (getD rows k [])) tt
 
-pub head-at-slot : (k : ℕ) → k < kinds → headAt k % 256 ≡ slotOf (getD rows k [])
+pub head-at-slot : (k : ℕ) → k < kinds → headAt k / 4096 % 256 ≡ slotOf (getD rows k [])
 unfolding headAt
-head-at-slot k h = let e : min k (kinds - 1) ≡ k = omega arith in ap (λ (j : ℕ). headFor j % 256) e ∙ head-slot k h
+head-at-slot k h = let e : min k (kinds - 1) ≡ k = omega arith in ap (λ (j : ℕ). headFor j / 4096 % 256) e ∙ head-slot k h

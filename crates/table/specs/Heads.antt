@@ -11,9 +11,9 @@ use Rattle.table.specs.Table.{kinds, rows, opOf, lenOf, slotOf, countOf}
 abbrev pub lengthFor : ℕ → List ℕ → ℕ
 lengthFor op r = cond (eqb (opOf r) op) (lenOf r) 0
 
--- the head of the row r at place i, before the row n: place, length, the length of n where it has the same opcode, number of fields, slot
+-- the head of the row r at place i, before the row n: place, slot, number of fields, length, the length of n where it has the same opcode
 abbrev pub headOf : ℕ → List ℕ → List ℕ → ℕ
-headOf i r n = i * 1048576 + lenOf r * 65536 + lengthFor (opOf r) n * 4096 + countOf r * 256 + slotOf r
+headOf i r n = i * 1048576 + slotOf r * 4096 + countOf r * 256 + lenOf r * 16 + lengthFor (opOf r) n
 
 abbrev pub headFor : ℕ → ℕ
 headFor k = headOf k (getD rows k []) (getD rows (suc k) [])

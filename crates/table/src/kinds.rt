@@ -443,102 +443,102 @@ pub const TABLE: [[u32; 13]; KINDS as usize] = [
 // The kinds that are one setting in two lengths, the shorter form first.
 pub const FORMS: [[u64; 2]; PAIRS] = [[5, 6], [25, 26], [27, 28]];
 
-// HEAD_k is what the code wants of row k beside its fields (specs/Heads.antt). In hex: two digits for the row's place, one for its length,
-// one for the next row's length where that has the same opcode, one for the number of fields, two for the slot.
-pub const HEAD_1: u32 = 0x0000_0000 + ROW_1[1] * 0x1_0000 + ROW_1[3] * 0x100 + ROW_1[2];
+// HEAD_k is what the code wants of row k beside its fields (specs/Heads.antt). In hex: two digits for the row's place, two for the
+// slot, the number of fields, the length, and the length of the next row where that has the same opcode.
+pub const HEAD_1: u32 = 0x0000_0000 + ROW_1[2] * 0x1000 + ROW_1[3] * 0x100 + ROW_1[1] * 0x10;
 
-pub const HEAD_2: u32 = 0x0010_0000 + ROW_2[1] * 0x1_0000 + ROW_2[3] * 0x100 + ROW_2[2];
+pub const HEAD_2: u32 = 0x0010_0000 + ROW_2[2] * 0x1000 + ROW_2[3] * 0x100 + ROW_2[1] * 0x10;
 
-pub const HEAD_3: u32 = 0x0020_0000 + ROW_3[1] * 0x1_0000 + ROW_3[3] * 0x100 + ROW_3[2];
+pub const HEAD_3: u32 = 0x0020_0000 + ROW_3[2] * 0x1000 + ROW_3[3] * 0x100 + ROW_3[1] * 0x10;
 
-pub const HEAD_4: u32 = 0x0030_0000 + ROW_4[1] * 0x1_0000 + ROW_4[3] * 0x100 + ROW_4[2];
+pub const HEAD_4: u32 = 0x0030_0000 + ROW_4[2] * 0x1000 + ROW_4[3] * 0x100 + ROW_4[1] * 0x10;
 
 pub const HEAD_5: u32 = 0x0040_0000
-    + ROW_5[1] * 0x1_0000
-    + ROW_6[1] * 0x1000
+    + ROW_5[2] * 0x1000
     + ROW_5[3] * 0x100
-    + ROW_5[2];
+    + ROW_5[1] * 0x10
+    + ROW_6[1];
 
-pub const HEAD_6: u32 = 0x0050_0000 + ROW_6[1] * 0x1_0000 + ROW_6[3] * 0x100 + ROW_6[2];
+pub const HEAD_6: u32 = 0x0050_0000 + ROW_6[2] * 0x1000 + ROW_6[3] * 0x100 + ROW_6[1] * 0x10;
 
-pub const HEAD_7: u32 = 0x0060_0000 + ROW_7[1] * 0x1_0000 + ROW_7[3] * 0x100 + ROW_7[2];
+pub const HEAD_7: u32 = 0x0060_0000 + ROW_7[2] * 0x1000 + ROW_7[3] * 0x100 + ROW_7[1] * 0x10;
 
-pub const HEAD_8: u32 = 0x0070_0000 + ROW_8[1] * 0x1_0000 + ROW_8[3] * 0x100 + ROW_8[2];
+pub const HEAD_8: u32 = 0x0070_0000 + ROW_8[2] * 0x1000 + ROW_8[3] * 0x100 + ROW_8[1] * 0x10;
 
-pub const HEAD_9: u32 = 0x0080_0000 + ROW_9[1] * 0x1_0000 + ROW_9[3] * 0x100 + ROW_9[2];
+pub const HEAD_9: u32 = 0x0080_0000 + ROW_9[2] * 0x1000 + ROW_9[3] * 0x100 + ROW_9[1] * 0x10;
 
-pub const HEAD_10: u32 = 0x0090_0000 + ROW_10[1] * 0x1_0000 + ROW_10[3] * 0x100 + ROW_10[2];
+pub const HEAD_10: u32 = 0x0090_0000 + ROW_10[2] * 0x1000 + ROW_10[3] * 0x100 + ROW_10[1] * 0x10;
 
-pub const HEAD_11: u32 = 0x00A0_0000 + ROW_11[1] * 0x1_0000 + ROW_11[3] * 0x100 + ROW_11[2];
+pub const HEAD_11: u32 = 0x00A0_0000 + ROW_11[2] * 0x1000 + ROW_11[3] * 0x100 + ROW_11[1] * 0x10;
 
-pub const HEAD_12: u32 = 0x00B0_0000 + ROW_12[1] * 0x1_0000 + ROW_12[3] * 0x100 + ROW_12[2];
+pub const HEAD_12: u32 = 0x00B0_0000 + ROW_12[2] * 0x1000 + ROW_12[3] * 0x100 + ROW_12[1] * 0x10;
 
-pub const HEAD_13: u32 = 0x00C0_0000 + ROW_13[1] * 0x1_0000 + ROW_13[3] * 0x100 + ROW_13[2];
+pub const HEAD_13: u32 = 0x00C0_0000 + ROW_13[2] * 0x1000 + ROW_13[3] * 0x100 + ROW_13[1] * 0x10;
 
 pub const HEAD_14: u32 = 0x00D0_0000
-    + ROW_14[1] * 0x1_0000
-    + ROW_15[1] * 0x1000
+    + ROW_14[2] * 0x1000
     + ROW_14[3] * 0x100
-    + ROW_14[2];
+    + ROW_14[1] * 0x10
+    + ROW_15[1];
 
-pub const HEAD_15: u32 = 0x00E0_0000 + ROW_15[1] * 0x1_0000 + ROW_15[3] * 0x100 + ROW_15[2];
+pub const HEAD_15: u32 = 0x00E0_0000 + ROW_15[2] * 0x1000 + ROW_15[3] * 0x100 + ROW_15[1] * 0x10;
 
-pub const HEAD_16: u32 = 0x00F0_0000 + ROW_16[1] * 0x1_0000 + ROW_16[3] * 0x100 + ROW_16[2];
+pub const HEAD_16: u32 = 0x00F0_0000 + ROW_16[2] * 0x1000 + ROW_16[3] * 0x100 + ROW_16[1] * 0x10;
 
-pub const HEAD_17: u32 = 0x0100_0000 + ROW_17[1] * 0x1_0000 + ROW_17[3] * 0x100 + ROW_17[2];
+pub const HEAD_17: u32 = 0x0100_0000 + ROW_17[2] * 0x1000 + ROW_17[3] * 0x100 + ROW_17[1] * 0x10;
 
-pub const HEAD_18: u32 = 0x0110_0000 + ROW_18[1] * 0x1_0000 + ROW_18[3] * 0x100 + ROW_18[2];
+pub const HEAD_18: u32 = 0x0110_0000 + ROW_18[2] * 0x1000 + ROW_18[3] * 0x100 + ROW_18[1] * 0x10;
 
-pub const HEAD_19: u32 = 0x0120_0000 + ROW_19[1] * 0x1_0000 + ROW_19[3] * 0x100 + ROW_19[2];
+pub const HEAD_19: u32 = 0x0120_0000 + ROW_19[2] * 0x1000 + ROW_19[3] * 0x100 + ROW_19[1] * 0x10;
 
-pub const HEAD_20: u32 = 0x0130_0000 + ROW_20[1] * 0x1_0000 + ROW_20[3] * 0x100 + ROW_20[2];
+pub const HEAD_20: u32 = 0x0130_0000 + ROW_20[2] * 0x1000 + ROW_20[3] * 0x100 + ROW_20[1] * 0x10;
 
-pub const HEAD_21: u32 = 0x0140_0000 + ROW_21[1] * 0x1_0000 + ROW_21[3] * 0x100 + ROW_21[2];
+pub const HEAD_21: u32 = 0x0140_0000 + ROW_21[2] * 0x1000 + ROW_21[3] * 0x100 + ROW_21[1] * 0x10;
 
-pub const HEAD_22: u32 = 0x0150_0000 + ROW_22[1] * 0x1_0000 + ROW_22[3] * 0x100 + ROW_22[2];
+pub const HEAD_22: u32 = 0x0150_0000 + ROW_22[2] * 0x1000 + ROW_22[3] * 0x100 + ROW_22[1] * 0x10;
 
-pub const HEAD_23: u32 = 0x0160_0000 + ROW_23[1] * 0x1_0000 + ROW_23[3] * 0x100 + ROW_23[2];
+pub const HEAD_23: u32 = 0x0160_0000 + ROW_23[2] * 0x1000 + ROW_23[3] * 0x100 + ROW_23[1] * 0x10;
 
-pub const HEAD_24: u32 = 0x0170_0000 + ROW_24[1] * 0x1_0000 + ROW_24[3] * 0x100 + ROW_24[2];
+pub const HEAD_24: u32 = 0x0170_0000 + ROW_24[2] * 0x1000 + ROW_24[3] * 0x100 + ROW_24[1] * 0x10;
 
 pub const HEAD_25: u32 = 0x0180_0000
-    + ROW_25[1] * 0x1_0000
-    + ROW_26[1] * 0x1000
+    + ROW_25[2] * 0x1000
     + ROW_25[3] * 0x100
-    + ROW_25[2];
+    + ROW_25[1] * 0x10
+    + ROW_26[1];
 
-pub const HEAD_26: u32 = 0x0190_0000 + ROW_26[1] * 0x1_0000 + ROW_26[3] * 0x100 + ROW_26[2];
+pub const HEAD_26: u32 = 0x0190_0000 + ROW_26[2] * 0x1000 + ROW_26[3] * 0x100 + ROW_26[1] * 0x10;
 
 pub const HEAD_27: u32 = 0x01A0_0000
-    + ROW_27[1] * 0x1_0000
-    + ROW_28[1] * 0x1000
+    + ROW_27[2] * 0x1000
     + ROW_27[3] * 0x100
-    + ROW_27[2];
+    + ROW_27[1] * 0x10
+    + ROW_28[1];
 
-pub const HEAD_28: u32 = 0x01B0_0000 + ROW_28[1] * 0x1_0000 + ROW_28[3] * 0x100 + ROW_28[2];
+pub const HEAD_28: u32 = 0x01B0_0000 + ROW_28[2] * 0x1000 + ROW_28[3] * 0x100 + ROW_28[1] * 0x10;
 
-pub const HEAD_29: u32 = 0x01C0_0000 + ROW_29[1] * 0x1_0000 + ROW_29[3] * 0x100 + ROW_29[2];
+pub const HEAD_29: u32 = 0x01C0_0000 + ROW_29[2] * 0x1000 + ROW_29[3] * 0x100 + ROW_29[1] * 0x10;
 
-pub const HEAD_30: u32 = 0x01D0_0000 + ROW_30[1] * 0x1_0000 + ROW_30[3] * 0x100 + ROW_30[2];
+pub const HEAD_30: u32 = 0x01D0_0000 + ROW_30[2] * 0x1000 + ROW_30[3] * 0x100 + ROW_30[1] * 0x10;
 
-pub const HEAD_31: u32 = 0x01E0_0000 + ROW_31[1] * 0x1_0000 + ROW_31[3] * 0x100 + ROW_31[2];
+pub const HEAD_31: u32 = 0x01E0_0000 + ROW_31[2] * 0x1000 + ROW_31[3] * 0x100 + ROW_31[1] * 0x10;
 
-pub const HEAD_32: u32 = 0x01F0_0000 + ROW_32[1] * 0x1_0000 + ROW_32[3] * 0x100 + ROW_32[2];
+pub const HEAD_32: u32 = 0x01F0_0000 + ROW_32[2] * 0x1000 + ROW_32[3] * 0x100 + ROW_32[1] * 0x10;
 
-pub const HEAD_33: u32 = 0x0200_0000 + ROW_33[1] * 0x1_0000 + ROW_33[3] * 0x100 + ROW_33[2];
+pub const HEAD_33: u32 = 0x0200_0000 + ROW_33[2] * 0x1000 + ROW_33[3] * 0x100 + ROW_33[1] * 0x10;
 
-pub const HEAD_34: u32 = 0x0210_0000 + ROW_34[1] * 0x1_0000 + ROW_34[3] * 0x100 + ROW_34[2];
+pub const HEAD_34: u32 = 0x0210_0000 + ROW_34[2] * 0x1000 + ROW_34[3] * 0x100 + ROW_34[1] * 0x10;
 
-pub const HEAD_35: u32 = 0x0220_0000 + ROW_35[1] * 0x1_0000 + ROW_35[3] * 0x100 + ROW_35[2];
+pub const HEAD_35: u32 = 0x0220_0000 + ROW_35[2] * 0x1000 + ROW_35[3] * 0x100 + ROW_35[1] * 0x10;
 
 pub const HEAD_36: u32 = 0x0230_0000
-    + ROW_36[1] * 0x1_0000
-    + ROW_37[1] * 0x1000
+    + ROW_36[2] * 0x1000
     + ROW_36[3] * 0x100
-    + ROW_36[2];
+    + ROW_36[1] * 0x10
+    + ROW_37[1];
 
-pub const HEAD_37: u32 = 0x0240_0000 + ROW_37[1] * 0x1_0000 + ROW_37[3] * 0x100 + ROW_37[2];
+pub const HEAD_37: u32 = 0x0240_0000 + ROW_37[2] * 0x1000 + ROW_37[3] * 0x100 + ROW_37[1] * 0x10;
 
-pub const HEAD_38: u32 = 0x0250_0000 + ROW_38[1] * 0x1_0000 + ROW_38[3] * 0x100 + ROW_38[2];
+pub const HEAD_38: u32 = 0x0250_0000 + ROW_38[2] * 0x1000 + ROW_38[3] * 0x100 + ROW_38[1] * 0x10;
 
-pub const HEAD_39: u32 = 0x0260_0000 + ROW_39[1] * 0x1_0000 + ROW_39[3] * 0x100 + ROW_39[2];
+pub const HEAD_39: u32 = 0x0260_0000 + ROW_39[2] * 0x1000 + ROW_39[3] * 0x100 + ROW_39[1] * 0x10;

@@ -1,5 +1,5 @@
 use mathlib.Core.Path.{sym, ap, _≡_, _∙_}
-use Prim.Native.Nat.{ℕ, _-_, _%_, _<_, _≤_}
+use Prim.Native.Nat.{ℕ, _-_, _/_, _%_, _<_, _≤_}
 use native.Mathlib.Omega.{arith}
 use borrow.Author.Needs.{needs}
 use Rattle.table.specs.Table.{kinds}
@@ -15,7 +15,7 @@ returns c =
     let low : 0 < k = c .before .before .if1 .taken in
     let high : k ≤ kinds = c .before .if2 .taken in
     let h : k - 1 < kinds = omega arith in
-    ap (λ (x : ℕ). x % 256) (c .head-at .ensures) ∙ head-at-slot (k - 1) h ∙ sym (slot-row k low high)
+    ap (λ (x : ℕ). x / 4096 % 256) (c .head-at .ensures) ∙ head-at-slot (k - 1) h ∙ sym (slot-row k low high)
 
 returns-3 : tie.Need-returns-3
 returns-3 c = let none : 0 ≡ c .before .args .kind = omega (arith, c .if1 .left) in slot-zero ∙ ap slotFor none
