@@ -1,3 +1,4 @@
-pub mod Same
-pub mod Outcome
 pub mod Examples
+pub mod Outcome
+pub mod Places
+pub mod Same

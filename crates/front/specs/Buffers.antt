@@ -1,0 +1,79 @@
+-- What the front's readers leave in the buffers that they are lent (REFERENCE, "Programs"): how many bytes, and what of them is as it was. Which bytes
+-- come is the system's.
+-- Assumes nothing.
+use Prim.Native.Nat.{ℕ, _-_, _≤_}
+use mathlib.Core.Path.{_≡_}
+use mathlib.Core.Bool.{cond, false, true, _&&_}
+use mathlib.Core.List.{List, []}
+use lib.Dec.{leb, ltb}
+use lib.IntN.{negsuc, pos}
+use lib.ListN.{drop, length, set, take}
+use Rattle.arguments.specs.declared.Place.{Place}
+use Rattle.arguments.specs.declared.Place.the-variants.{Argument, Nowhere, StandardInput}
+use Rattle.front.specs.declared.Content.{Content}
+use Rattle.front.specs.declared.Fetched.{Fetched}
+use Rattle.front.specs.declared.Input.{Input}
+
+-- ---- an input
+
+-- no input
+abbrev pub missing : Input
+missing = record { found = false; fd = negsuc 0; name = 0 }
+
+-- Standard input, which is descriptor 0, under a name of n bytes.
+abbrev pub standardInput : ℕ → Input
+standardInput n = record { found = true; fd = pos 0; name = n }
+
+-- Its own name is `-`, the byte 45, where the buffer has room for that.
+unfoldable pub called : List ℕ → List ℕ
+called s = set s 0 45
+
+unfoldable pub standardIn : List ℕ → Input
+standardIn s = cond (ltb 0 (length s)) (standardInput 1) missing
+
+-- An input's name stands at the front of the buffer, which keeps its length.
+pub record Opening (s t : List ℕ) (r : Input) : Type 0 where
+  pub named : r .name ≤ length t
+  pub long : length t ≡ length s
+
+-- What opening the input at a place leaves. Which file an argument names, and whether it is there, is the system's. Standard input is there. Where there
+-- is no input nothing is opened, and the buffer is as it was.
+unfoldable pub Opens : Place → List ℕ → List ℕ → Input → Type 0
+Opens (Argument k) s t r = Unit
+Opens StandardInput s t r = (r ≡ standardIn s) × (t ≡ called s)
+Opens Nowhere s t r = (r ≡ missing) × (t ≡ s)
+
+-- ---- reading
+
+-- The bytes of a buffer from one place up to another; none where there are no such places.
+unfoldable pub spanOf : List ℕ → ℕ → ℕ → List ℕ
+spanOf s from have = cond (leb from have && leb have (length s)) (take (have - from) (drop from s)) []
+
+-- What a read leaves that is to keep the bytes ks: they stand at the front, what came stands behind them, and the buffer keeps its length. More may
+-- follow exactly if something came, and nothing came where the read failed.
+pub record Fetches (ks s t : List ℕ) (r : Fetched) : Type 0 where
+  pub front : take (length ks) t ≡ ks
+  pub least : length ks ≤ r .have
+  pub most : r .have ≤ length t
+  pub long : length t ≡ length s
+  pub more : r .more ≡ ltb (length ks) (r .have)
+  pub failed : r .failed ≡ true → r .have ≡ length ks
+
+-- ---- an input read whole
+
+-- of no input nothing is read
+abbrev pub unread : Content
+unread = record { found = false; name = 0; have = 0 }
+
+-- An input's name stands at the front of the one buffer, what was read at the front of the other, and both keep their lengths.
+pub record Reading (s t b d : List ℕ) (r : Content) : Type 0 where
+  pub named : r .name ≤ length t
+  pub long : length t ≡ length s
+  pub most : r .have ≤ length d
+  pub whole : length d ≡ length b
+
+-- What reading the input at a place leaves: where there is none, both buffers are as they were.
+unfoldable pub Reads : Place → List ℕ → List ℕ → List ℕ → List ℕ → Content → Type 0
+Reads (Argument k) s t b d r = Unit
+Reads StandardInput s t b d r = (r .name ≡ standardIn s .name) × (t ≡ called s)
+Reads Nowhere s t b d r = (r ≡ unread) × (t ≡ s) × (d ≡ b)

@@ -1,0 +1,46 @@
+-- `main` is safe and ends. The measure is the number of inputs that are left; the buffers keep their lengths.
+-- Assumes nothing.
+use native.Mathlib.Omega.{arith}
+use borrow.Author.Needs.{needs}
+use mathlib.Core.Path.{_≡_, refl}
+use Prim.Native.Nat.{_-_}
+use lib.ListN.{length}
+use Rattle.play.proofs.main.Statement.{statement}
+use Rattle.play.proofs.main.Tie as tie
+
+abbrev Inv-loop : tie.InvT-loop
+Inv-loop arg₀ s₀ book₀ text₀ inputs i₀ i-end arg s book text i =
+    (length arg ≡ length arg₀) × (length s ≡ length s₀) × (length book ≡ length book₀) × (length text ≡ length text₀)
+
+abbrev μ-loop : tie.MeasureT-loop
+μ-loop arg₀ s₀ book₀ text₀ inputs i₀ i-end arg s book text i = i-end - i
+
+pub main-spec : {M : Type 1} → statement M
+main-spec =
+    tie.close
+    (tie.spec
+    Inv-loop
+    μ-loop
+    (λ c κs. tt)
+    (λ c κs. tt)
+    (λ c κs. tt)
+    (λ c κs. tt)
+    (λ c. refl)
+    (λ c. refl)
+    (λ c. omega arith)
+    (λ c κs. tt)
+    (search needs)
+    (search needs)
+    (λ c. tt)
+    (λ c κs. tt)
+    (λ c. omega arith)
+    (λ c. omega arith)
+    (λ c. omega arith)
+    (λ c. omega arith)
+    (λ c. omega arith)
+    (λ c κs. tt)
+    (λ c. tt)
+    (λ c. omega arith)
+    (λ c. omega arith)
+    (λ c. omega arith)
+    (λ c. tt))
