@@ -147,7 +147,9 @@ module _ (given mark : ℕ) where
     place-past h p = go (eqb (length (namesOf given mark)) 0) refl
       where
         go : (t : Bool) → eqb (length (namesOf given mark)) 0 ≡ t → Nowhere ≡ getD (placesOf given mark) i Nowhere
-        go true e = sym (ap (λ (ps : List Place). getD ps i Nowhere) (places-none (eqb-true _ _ e)) ∙ List·getD-eq-default (StandardInput ∷ []) Nowhere {n = i} (omega arith))
+        go true e =
+            let none : placesOf given mark ≡ StandardInput ∷ [] = places-none (eqb-true _ _ e) in
+            sym (ap (λ (ps : List Place). getD ps i Nowhere) none ∙ List·getD-eq-default (StandardInput ∷ []) Nowhere {n = i} (omega arith))
         go false e =
             let q : 0 < length (namesOf given mark) = omega (arith, eqb-false (length (namesOf given mark)) 0 e) in
             sym (ap (λ (ps : List Place). getD ps i Nowhere) (places-some q) ∙ List·getD-eq-default (namesOf given mark) Nowhere h)

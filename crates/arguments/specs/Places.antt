@@ -1,11 +1,12 @@
--- Which inputs a program has, by its arguments. These are counted from 1, since place 0 is the program's own name.
+-- Which inputs a program has, by its arguments (REFERENCE, "Programs"). These are counted from 1, since argument 0 is the program's own name.
 -- Assumes nothing.
 use Prim.Native.Nat.{ℕ, zero, suc}
 use mathlib.Core.Bool.{Bool, true, false}
 use mathlib.Core.List.{List, [], _∷_}
 use lib.Dec.{eqb}
+use lib.ListN.{getD}
 use Rattle.arguments.specs.declared.Place.{Place}
-use Rattle.arguments.specs.declared.Place.the-variants.{Argument, StandardInput}
+use Rattle.arguments.specs.declared.Place.the-variants.{Argument, Nowhere, StandardInput}
 
 -- a place before others, unless it is left out
 abbrev pub addUnless : Bool → Place → List Place → List Place
@@ -28,3 +29,7 @@ orStandardInput (p ∷ ps) = p ∷ ps
 -- The inputs are those that the names name, in their order; where there is no name, standard input alone.
 unfoldable pub placesOf : ℕ → ℕ → List Place
 placesOf given mark = orStandardInput (namesOf given mark)
+
+-- input i, counted from 0; nowhere if there is none
+abbrev pub placeAt : ℕ → ℕ → ℕ → Place
+placeAt given mark i = getD (placesOf given mark) i Nowhere

@@ -1,4 +1,4 @@
--- What an argument of a program is before `--`, behind which each is a name.
+-- What an argument of a program is before `--`, behind which each is a name (REFERENCE, "Programs").
 -- Assumes nothing.
 use Prim.Native.Nat.{ℕ}
 use mathlib.Core.Bool.{Bool, true, false, cond, _&&_}

@@ -4,7 +4,7 @@ ghost use mathlib.Core.Path.{_≡_};
 ghost use Prim.Native.Nat.{_<_};
 ghost use lib.ListN.{getD, length};
 ghost use Rattle.arguments.specs.Words.{wordOf};
-ghost use Rattle.arguments.specs.Places.{namesOf, placesOf};
+ghost use Rattle.arguments.specs.Places.{namesOf, placeAt, placesOf};
 
 // What an argument is before `--`, behind which each is a name.
 pub enum Word {
@@ -89,7 +89,7 @@ impl Inputs {
 
     // Where input i is, counted from 0.
     pub fn place(self, i: usize) -> Place
-        ensures { λ r. ⌜ r ≡ getD (placesOf (self .given) (self .mark)) i Place.Nowhere ⌝ }
+        ensures { λ r. ⌜ r ≡ placeAt (self .given) (self .mark) i ⌝ }
     {
         if i < self.names() {
             return Place::Argument(self.argument(i));

@@ -7,6 +7,7 @@ use front::Input;
 // What a message begins with.
 const NAME: [u8; 4] = *b"dump";
 
+// Writes to standard output, and tells whether it takes more.
 fn say(text: &[u8]) -> bool {
     front::say(&NAME, text)
 }

@@ -47,7 +47,8 @@ module _ (s t : List ℕ) (r : Input) where
   unfolding Opens called
   standard-called a h =
       let e = h .0 ∙ sym (standard-some s a) in
-      (ap (λ (x : Input). x .found) e, ap (λ (x : Input). x .fd) e, ap₂ (λ (n : ℕ) (l : List ℕ). take n l) (ap (λ (x : Input). x .name) e) (h .1) ∙ first s a)
+      let named : take (r .name) t ≡ take 1 (set s 0 45) = ap₂ (λ (n : ℕ) (l : List ℕ). take n l) (ap (λ (x : Input). x .name) e) (h .1) in
+      (ap (λ (x : Input). x .found) e, ap (λ (x : Input). x .fd) e, named ∙ first s a)
     where
       first : (l : List ℕ) → 0 < length l → take 1 (set l 0 45) ≡ 45 ∷ []
       first [] z = absurd (omega arith)

@@ -89,7 +89,8 @@ module _ (s read : List ℕ) (have : ℕ) (room : have ≤ length s) (long : len
     failed = λ e. sym keeps-is;
   }
 
-  pub read-fetches : (n : ℕ) → have + n ≤ length s → Fetches (take have s) s (behind s read have) (record { have = have + n; more = ltb 0 n; failed = false })
+  pub read-fetches : (n : ℕ) → have + n ≤ length s
+      → Fetches (take have s) s (behind s read have) (record { have = have + n; more = ltb 0 n; failed = false })
   read-fetches n h = record {
     front = stand;
     least = omega (arith, keeps-is);

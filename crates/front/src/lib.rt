@@ -5,8 +5,8 @@
 // A program has no exit status: what could not be done stands on standard error.
 ghost use mathlib.Core.Path.{_≡_};
 ghost use Prim.Native.Nat.{_≤_};
-ghost use lib.ListN.{getD, length, take};
-ghost use Rattle.arguments.specs.Places.{placesOf};
+ghost use lib.ListN.{length, take};
+ghost use Rattle.arguments.specs.Places.{placeAt};
 ghost use Rattle.front.specs.Buffers.{Fetches, Opening, Opens, Reading, Reads, called, missing, spanOf, standardIn, standardInput};
 use arguments::Inputs;
 use arguments::Place;
@@ -21,7 +21,7 @@ const VERSION: [u8; 6] = *b"0.1.0\n";
 // ---- what is said
 
 // Writes three texts, one behind the other, and tells whether all of them are written.
-fn write(fd: i32, first: &[u8], second: &[u8], third: &[u8]) -> bool {
+fn write_three(fd: i32, first: &[u8], second: &[u8], third: &[u8]) -> bool {
     if !io::write_all(fd, first) {
         return false;
     }
@@ -34,10 +34,10 @@ fn write(fd: i32, first: &[u8], second: &[u8], third: &[u8]) -> bool {
 // Begins a message about an input; `-` is standard input.
 fn complain(program: &[u8], what: &[u8], name: &[u8]) {
     if check::same(name, b"-") {
-        write(STDERR_FILENO, program, what, b"standard input");
+        write_three(STDERR_FILENO, program, what, b"standard input");
         return;
     }
-    write(STDERR_FILENO, program, what, name);
+    write_three(STDERR_FILENO, program, what, name);
 }
 
 // Says what could not be done, to what, and why the system's last call failed.
@@ -70,13 +70,16 @@ pub fn heading(program: &[u8], name: &[u8]) -> bool {
     if check::same(name, b"-") {
         return say(program, b"==> standard input <==\n");
     }
-    told(program, write(STDOUT_FILENO, b"==> ", name, b" <==\n"))
+    told(
+        program,
+        write_three(STDOUT_FILENO, b"==> ", name, b" <==\n"),
+    )
 }
 
 // Says what is wrong with an input.
 pub fn wrong_input(program: &[u8], name: &[u8], what: &[u8]) {
     complain(program, b": ", name);
-    write(STDERR_FILENO, b": ", what, b"\n");
+    write_three(STDERR_FILENO, b": ", what, b"\n");
 }
 
 // Says what is wrong with a line of an input.
@@ -84,13 +87,13 @@ pub fn wrong_line(program: &[u8], name: &[u8], line: usize, what: &[u8]) {
     complain(program, b": ", name);
     io::write_all(STDERR_FILENO, b": line ");
     io::print_decimal(STDERR_FILENO, line as u64);
-    write(STDERR_FILENO, b": ", what, b"\n");
+    write_three(STDERR_FILENO, b": ", what, b"\n");
 }
 
 // Says what is wrong with the arguments.
 fn wrong(program: &[u8], what: &[u8], argument: &[u8]) {
-    write(STDERR_FILENO, program, what, argument);
-    write(STDERR_FILENO, b"; ", program, b" --help says more\n");
+    write_three(STDERR_FILENO, program, what, argument);
+    write_three(STDERR_FILENO, b"; ", program, b" --help says more\n");
 }
 
 // Says what is wrong with a call.
@@ -100,7 +103,7 @@ pub fn wrong_call(program: &[u8], what: &[u8]) {
 
 // ---- the arguments
 
-// What the arguments ask for: work on inputs, or nothing that is not done.
+// What the arguments ask for: work on inputs, or nothing more.
 pub enum Asked {
     Work(Inputs),
     Nothing,
@@ -120,7 +123,7 @@ fn look_through(end: usize, arg: &mut [u8]) -> usize {
     end
 }
 
-// What an argument asks for, the first of so many that is no name, if there is one.
+// What the first argument that is no name asks for; where there is none, argument i is empty, and all that are given are names.
 fn ask(program: &[u8], help: &[u8], given: usize, i: usize, argument: &[u8]) -> Asked {
     let word = arguments::word_of(argument);
     match word {
@@ -136,7 +139,7 @@ fn ask(program: &[u8], help: &[u8], given: usize, i: usize, argument: &[u8]) -> 
         Word::Version => {
             told(
                 program,
-                write(STDOUT_FILENO, program, b" (Hoardbutton) ", &VERSION),
+                write_three(STDOUT_FILENO, program, b" (Hoardbutton) ", &VERSION),
             );
         }
         Word::Unknown => {
@@ -234,7 +237,7 @@ fn open_standard_input(arg: &mut [u8]) -> Input
 // Opens input i and leaves its name in `arg`: `-` for standard input. One that cannot be opened is said.
 pub fn open(program: &[u8], inputs: Inputs, i: usize, arg: &mut [u8]) -> Input
     ensures { λ r. ⌜ Opening (now (arg .entry)) (now (arg .exit)) r ⌝ }
-    ensures { λ r. ⌜ Opens (getD (placesOf (inputs .given) (inputs .mark)) i Place.Nowhere) (now (arg .entry)) (now (arg .exit)) r ⌝ }
+    ensures { λ r. ⌜ Opens (placeAt (inputs .given) (inputs .mark) i) (now (arg .entry)) (now (arg .exit)) r ⌝ }
 {
     let place = inputs.place(i);
     match place {
@@ -326,7 +329,7 @@ pub struct Content {
 // Reads input i, as far as the buffer has room. One that cannot be opened, or read so far, is said, and is not found.
 pub fn read(program: &[u8], inputs: Inputs, i: usize, arg: &mut [u8], s: &mut [u8]) -> Content
     ensures { λ r. ⌜ Reading (now (arg .entry)) (now (arg .exit)) (now (s .entry)) (now (s .exit)) r ⌝ }
-    ensures { λ r. ⌜ Reads (getD (placesOf (inputs .given) (inputs .mark)) i Place.Nowhere) (now (arg .entry)) (now (arg .exit)) (now (s .entry)) (now (s .exit)) r ⌝ }
+    ensures { λ r. ⌜ Reads (placeAt (inputs .given) (inputs .mark) i) (now (arg .entry)) (now (arg .exit)) (now (s .entry)) (now (s .exit)) r ⌝ }
 {
     let input = open(program, inputs, i, arg);
     let name = input.name;

@@ -11,6 +11,7 @@ use reel::Step;
 // What a message begins with.
 const NAME: [u8; 4] = *b"play";
 
+// Writes to standard output, and tells whether it takes more.
 fn say(text: &[u8]) -> bool {
     front::say(&NAME, text)
 }

@@ -9,6 +9,7 @@ const NAME: [u8; 7] = *b"profile";
 // A byte more than the longest book has, so that a longer one is told without being read whole.
 const READ: usize = 4097;
 
+// Writes to standard output, and tells whether it takes more.
 fn say(text: &[u8]) -> bool {
     front::say(&NAME, text)
 }
