@@ -18,7 +18,7 @@ unfoldable pub namesFrom : ℕ → ℕ → ℕ → List Place
 namesFrom mark k zero = []
 namesFrom mark k (suc n) = addUnless (eqb k mark) (Argument k) (namesFrom mark (suc k) n)
 
--- Of so many arguments each is a name but the mark, in their order. The mark is `--`; it is 0 where no argument is `--`.
+-- Of so many arguments each is a name but the mark, in their order. The mark is the first `--`; it is 0 where no argument is `--`.
 unfoldable pub namesOf : ℕ → ℕ → List Place
 namesOf given mark = namesFrom mark 1 given
 

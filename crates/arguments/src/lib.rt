@@ -38,7 +38,7 @@ pub fn word_of(arg: &[u8]) -> Word
     Word::Name
 }
 
-// What a program is given behind its name: so many arguments, of which `mark` is `--`; 0 if none is.
+// What a program is given behind its name: so many arguments, of which `mark` is the first that is `--`; 0 if none is.
 pub struct Inputs {
     pub given: usize,
     pub mark: usize,

@@ -1,4 +1,4 @@
--- What the readers' specifications come to (REFERENCE, "Programs"). A refill keeps just the bytes between its two places (`span-middle`); more
+-- What the specifications of the front's functions come to. A refill keeps just the bytes between its two places (`span-middle`); more
 -- may follow exactly if something came (`came-more`, `none-over`), and not where a read failed (`failed-over`); standard input is descriptor 0 and is
 -- called `-` (`standard-called`); where there is no input, nothing is found and nothing altered (`nowhere-left`, `nowhere-unread`).
 -- Assumes nothing.

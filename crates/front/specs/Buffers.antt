@@ -1,5 +1,5 @@
--- What the front's readers leave in the buffers that they are lent (REFERENCE, "Programs"): how many bytes, and what of them is as it was. Which bytes
--- come is the system's.
+-- What the front's functions say of what they answer and of the buffers that they are lent: how many bytes, and what of them is as it was. Which bytes
+-- come is the system's (DESIGN, "The layers").
 -- Assumes nothing.
 use Prim.Native.Nat.{ℕ, _-_, _≤_}
 use mathlib.Core.Path.{_≡_}
@@ -10,9 +10,18 @@ use lib.IntN.{negsuc, pos}
 use lib.ListN.{drop, length, set, take}
 use Rattle.arguments.specs.declared.Place.{Place}
 use Rattle.arguments.specs.declared.Place.the-variants.{Argument, Nowhere, StandardInput}
+use Rattle.front.specs.declared.Asked.{Asked}
+use Rattle.front.specs.declared.Asked.the-variants.{Nothing, Work}
 use Rattle.front.specs.declared.Content.{Content}
 use Rattle.front.specs.declared.Fetched.{Fetched}
 use Rattle.front.specs.declared.Input.{Input}
+
+-- ---- the arguments
+
+-- Where there is work to do, the mark is one of the arguments that were given, or none of them.
+abbrev pub Asks : Asked → Type 0
+Asks (Work x) = x .mark ≤ x .given
+Asks Nothing = Unit
 
 -- ---- an input
 
@@ -31,13 +40,13 @@ called s = set s 0 45
 unfoldable pub standardIn : List ℕ → Input
 standardIn s = cond (ltb 0 (length s)) (standardInput 1) missing
 
--- An input's name stands at the front of the buffer, which keeps its length.
+-- So many bytes at the front of the buffer are an input's name, and the buffer keeps its length.
 pub record Opening (s t : List ℕ) (r : Input) : Type 0 where
   pub named : r .name ≤ length t
   pub long : length t ≡ length s
 
--- What opening the input at a place leaves. Which file an argument names, and whether it is there, is the system's. Standard input is there. Where there
--- is no input nothing is opened, and the buffer is as it was.
+-- What opening the input at a place leaves. Which file an argument names, and whether it is there, is the system's. Standard input is there, where the
+-- buffer has room for its name. Where there is no input nothing is opened, and the buffer is as it was.
 unfoldable pub Opens : Place → List ℕ → List ℕ → Input → Type 0
 Opens (Argument k) s t r = Unit
 Opens StandardInput s t r = (r ≡ standardIn s) × (t ≡ called s)
@@ -65,7 +74,7 @@ pub record Fetches (ks s t : List ℕ) (r : Fetched) : Type 0 where
 abbrev pub unread : Content
 unread = record { found = false; name = 0; have = 0 }
 
--- An input's name stands at the front of the one buffer, what was read at the front of the other, and both keep their lengths.
+-- So many bytes at the front of the one buffer are an input's name, so many of the other were read, and both keep their lengths.
 pub record Reading (s t b d : List ℕ) (r : Content) : Type 0 where
   pub named : r .name ≤ length t
   pub long : length t ≡ length s

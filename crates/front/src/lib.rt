@@ -1,13 +1,13 @@
-// The front of a program: what each program does around its work. It looks through its arguments, opens and reads what they name, and says what it has
-// to say. There are no callbacks: a program asks for what comes next, input by input, and keeps what is its own. It gives its name at each call, since a
-// message begins with it.
+// The front of a program: what each that people call does around its work. It looks through its arguments, opens and reads what they name, and says what
+// it has to say. There are no callbacks: a program asks for what comes next, input by input, and keeps what is its own. It gives its name where something
+// may have to be said, since a message begins with it.
 // What is read and written is the system's. The contracts say how much there is, and what of a lent buffer is as it was (specs/Buffers.antt).
 // A program has no exit status: what could not be done stands on standard error.
 ghost use mathlib.Core.Path.{_≡_};
 ghost use Prim.Native.Nat.{_≤_};
 ghost use lib.ListN.{length, take};
 ghost use Rattle.arguments.specs.Places.{placeAt};
-ghost use Rattle.front.specs.Buffers.{Fetches, Opening, Opens, Reading, Reads, called, missing, spanOf, standardIn, standardInput};
+ghost use Rattle.front.specs.Buffers.{Asks, Fetches, Opening, Opens, Reading, Reads, called, missing, spanOf, standardIn, standardInput};
 use arguments::Inputs;
 use arguments::Place;
 use arguments::Word;
@@ -46,7 +46,7 @@ fn cannot(program: &[u8], what: &[u8], name: &[u8]) {
     os::fail(b"");
 }
 
-// Says that an input could not be read to its end, right behind the read that failed.
+// Says that an input could not be read, and why: to be called right behind the read that failed.
 pub fn cannot_read(program: &[u8], name: &[u8]) {
     cannot(program, b": cannot read ", name);
 }
@@ -110,7 +110,9 @@ pub enum Asked {
 }
 
 // The first argument that is no name; `end` if each is one.
-fn look_through(end: usize, arg: &mut [u8]) -> usize {
+fn look_through(end: usize, arg: &mut [u8]) -> usize
+    ensures { λ r. ⌜ r ≤ end ⌝ }
+{
     let mut i: usize = 1;
     while i < end {
         let n = os::arg(i, arg);
@@ -123,8 +125,11 @@ fn look_through(end: usize, arg: &mut [u8]) -> usize {
     end
 }
 
-// What the first argument that is no name asks for; where there is none, argument i is empty, and all that are given are names.
-fn ask(program: &[u8], help: &[u8], given: usize, i: usize, argument: &[u8]) -> Asked {
+// What argument i of so many asks for, the first that is no name.
+fn ask(program: &[u8], help: &[u8], given: usize, i: usize, argument: &[u8]) -> Asked
+    requires { ⌜ i ≤ given ⌝ }
+    ensures { λ r. ⌜ Asks r ⌝ }
+{
     let word = arguments::word_of(argument);
     match word {
         Word::Name => {
@@ -149,13 +154,22 @@ fn ask(program: &[u8], help: &[u8], given: usize, i: usize, argument: &[u8]) -> 
     Asked::Nothing
 }
 
-// Looks at every argument before anything is read. The first that is no name decides: help and the version are said, and so is an unknown option.
-pub fn begin(program: &[u8], help: &[u8], arg: &mut [u8]) -> Asked {
+// Looks through the arguments before anything is read. The first that is no name decides: help and the version are said, and so is an unknown option.
+// One for which `arg` has no room is a name.
+pub fn begin(program: &[u8], help: &[u8], arg: &mut [u8]) -> Asked
+    ensures { λ r. ⌜ Asks r ⌝ }
+{
     let end = os::arg_count();
     if end == 0 {
         return Asked::Nothing;
     }
     let i = look_through(end, arg);
+    if i == end {
+        return Asked::Work(Inputs {
+            given: end - 1,
+            mark: 0,
+        });
+    }
     let n = os::arg(i, arg);
     ask(program, help, end - 1, i, &arg[..n])
 }
@@ -209,7 +223,7 @@ fn open_name(program: &[u8], name: &[u8], n: usize) -> Input
     }
 }
 
-// Opens what argument k names. A name that `arg` has no room for names no file.
+// Opens what argument k names. A name that `arg` has no room for cannot be opened.
 fn open_argument(program: &[u8], k: usize, arg: &mut [u8]) -> Input
     ensures { λ r. ⌜ Opening (now (arg .entry)) (now (arg .exit)) r ⌝ }
 {
@@ -234,7 +248,7 @@ fn open_standard_input(arg: &mut [u8]) -> Input
     standard_input(1)
 }
 
-// Opens input i and leaves its name in `arg`: `-` for standard input. One that cannot be opened is said.
+// Opens input i and leaves its name in `arg`: `-` for standard input. A file that cannot be opened is said.
 pub fn open(program: &[u8], inputs: Inputs, i: usize, arg: &mut [u8]) -> Input
     ensures { λ r. ⌜ Opening (now (arg .entry)) (now (arg .exit)) r ⌝ }
     ensures { λ r. ⌜ Opens (placeAt (inputs .given) (inputs .mark) i) (now (arg .entry)) (now (arg .exit)) r ⌝ }
@@ -247,7 +261,7 @@ pub fn open(program: &[u8], inputs: Inputs, i: usize, arg: &mut [u8]) -> Input
     }
 }
 
-// Closes an input of this name. Standard input stays open, so that a second `-` finds its end.
+// Closes an input of this name. Standard input stays open, so that a second `-` goes on there.
 pub fn close(input: Input, name: &[u8]) {
     if !check::same(name, b"-") {
         libc::close(input.fd);
@@ -263,7 +277,7 @@ pub struct Fetched {
     pub failed: bool,
 }
 
-// Reads once behind the first `have` bytes. A read that gives nothing is the input's end.
+// Reads once behind the first `have` bytes. A read that gives nothing is the input's end, or there is no room.
 fn read_on(fd: i32, s: &mut [u8], have: usize) -> Fetched
     requires { ⌜ have ≤ length (now s) ⌝ }
     ensures { λ r. ⌜ Fetches (take have (now (s .entry))) (now (s .entry)) (now (s .exit)) r ⌝ }
@@ -285,7 +299,8 @@ fn read_on(fd: i32, s: &mut [u8], have: usize) -> Fetched
     }
 }
 
-// Keeps the bytes from `from` to `have`, which go to the front, and reads once behind them.
+// Keeps the bytes from `from` to `have`, which go to the front, and reads once behind them: so the buffer has to be longer than what a part leaves.
+// Where there are no such places none is kept, and nothing is asked of the caller.
 pub fn refill(input: Input, s: &mut [u8], from: usize, have: usize) -> Fetched
     ensures { λ r. ⌜ Fetches (spanOf (now (s .entry)) from have) (now (s .entry)) (now (s .exit)) r ⌝ }
 {
@@ -326,7 +341,7 @@ pub struct Content {
     pub have: usize,
 }
 
-// Reads input i, as far as the buffer has room. One that cannot be opened, or read so far, is said, and is not found.
+// Reads input i, as far as the buffer has room. A file that cannot be opened, or read so far, is said, and is not found.
 pub fn read(program: &[u8], inputs: Inputs, i: usize, arg: &mut [u8], s: &mut [u8]) -> Content
     ensures { λ r. ⌜ Reading (now (arg .entry)) (now (arg .exit)) (now (s .entry)) (now (s .exit)) r ⌝ }
     ensures { λ r. ⌜ Reads (placeAt (inputs .given) (inputs .mark) i) (now (arg .entry)) (now (arg .exit)) (now (s .entry)) (now (s .exit)) r ⌝ }

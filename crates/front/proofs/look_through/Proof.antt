@@ -1,4 +1,4 @@
--- `look_through` is safe and ends. The measure is the number of arguments that are left; the buffer keeps its length.
+-- `look_through` is safe, ends and meets its contract. The measure is the number of arguments that are left; the buffer keeps its length.
 -- Assumes nothing.
 use native.Mathlib.Omega.{arith}
 use borrow.Author.Needs.{needs}
@@ -27,9 +27,9 @@ look-through-spec =
     (λ c κs. tt)
     (search needs)
     (λ c. omega arith)
-    (λ c. tt)
     (λ c. omega arith)
     (λ c. omega arith)
     (λ c. omega arith)
     (λ c. omega arith)
-    (λ c. tt))
+    (λ c. omega arith)
+    (λ c. omega arith))
