@@ -1,11 +1,12 @@
 /* Hoardbutton for C: frames of the LR2021 radio, its status and responses, a settings book in a lent buffer, which two sides may share,
- * recorded days, the receive widths of banks, the locker profile, reels and dumps.
+ * recorded days, the receive widths of banks, the locker profile, a controller, reels and dumps.
  *
  * Every function answers every input; none traps, allocates, keeps a pointer or touches a global, so all may be called from several threads
  * and from an interrupt at the same time, as long as no buffer is written by one call while another has it. A refusal is one of
  * HB_REFUSED_.., 0 where there is none; a refused call alters no buffer that it was lent, and all else in its answer is 0 but the place.
- * hb_play is the one exception: on 15 it gives what the records before the fault have made. A caller owes two things: a pointer has as many
- * elements as its length says (it may be null where that is 0), and buffers lent to one call do not overlap.
+ * There are two exceptions: hb_play gives on 15 what the records before the fault have made, and an hb_control has a state beside its refusal.
+ * A caller owes two things: a pointer has as many elements as its length says (it may be null where that is 0), and buffers lent to one call
+ * do not overlap.
  *
  * A kind is a command's number, HB_SET_RF_FREQUENCY and so on. A frame is the bytes of one command. A kind is a setting's, which a book
  * keeps, or an action; three settings have two kinds, a shorter and a longer form. docs/REFERENCE.md has the bytes of all. The constants
@@ -894,6 +895,41 @@ hb_answer hb_widths_find(const uint64_t *needs, size_t n, uint8_t *codes, size_t
  * refusal first, since value is 0 for a refused book too. 22 where a frame of kind 1, 2 or 4 is not held, whatever rules the others break.
  * Refuses 11, 10, 16, 22. */
 hb_answer hb_profile(const uint8_t *book, size_t len);
+
+/* ---- the controller of a bank: sends a book's frames, one at each step, and takes the status bytes that came back with each. A step is
+ * hb_controller_send, whose bytes go out over the bus, and then hb_controller_hear. The status of a step judges the frame of the step before, so
+ * the first judges nothing, and behind the last frame a final empty read judges that: a book of n frames is done or stopped within n + 1 steps.
+ * Each call reads the book anew and never writes it; it refuses what hb_book_replay does, but 12, whatever the state is. */
+
+/* Where the controller stands. outcome 0: running, count frames are sent and heard of; 1: done, with count 0; 2: stopped, for frame count, from 1, went
+ * wrong; any other: ended. Any numbers may be handed in. A running state that counts more frames than the book has, or any where the book has no frame,
+ * counts as ended, though its outcome is 0: that the work is over hb_sending says. What has ended comes back as it was given. */
+typedef struct hb_controller {
+    uint64_t outcome, count;
+} hb_controller;
+
+/* The state behind a call. Look at refusal first: the state is then the one given, and for a refused start 1 and 0. */
+typedef struct hb_control {
+    uint32_t refusal, place;
+    hb_controller state;
+} hb_control;
+
+/* What a step sends: the first len bytes, zeros behind them. over is 1 where nothing is left to do; without a refusal, over 0 with len 0 is the final
+ * empty read. On a refusal over, len and bytes are 0. */
+typedef struct hb_sending {
+    uint32_t refusal, place, over, len;
+    uint8_t bytes[HB_FRAME_MAX];
+} hb_sending;
+
+/* The first state: running with no frame sent, and done for a book of no frames. Refuses 11, 10, 16. */
+hb_control hb_controller_start(const uint8_t *book, size_t len);
+
+/* What the step sends; the state stays. Refuses 11, 10, 16. */
+hb_sending hb_controller_send(const uint8_t *book, size_t len, hb_controller state);
+
+/* The state behind the step, by the status that came back with it: Fail, PErr and Unknown stop, Ok and Data go on. It has two bytes; one that is not
+ * there counts as 0, and those behind them are not looked at. Refuses 11, 10, 16. */
+hb_control hb_controller_hear(const uint8_t *book, size_t len, hb_controller state, const uint8_t *status, size_t status_len);
 
 /* ---- reels: frames in a row, each behind a byte that says its length */
 

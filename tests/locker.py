@@ -36,11 +36,16 @@ def decoded(frame):
     return kind, values
 
 
+def placed(book):
+    """Where the slots lead, in the order of the places: each place with its slot's kind."""
+    places = {kind: number(book, 4 + 2 * slot) for slot, kind in enumerate(SETTINGS)}
+    return sorted((place, kind) for kind, place in places.items() if place)
+
+
 def settings(book):
     """The arguments of each kind whose slot leads to a frame of it, and whether the book is well formed."""
-    places = {kind: number(book, 4 + 2 * slot) for slot, kind in enumerate(SETTINGS)}
     at, held, is_tiled = START, {}, True
-    for place, kind in sorted((place, kind) for kind, place in places.items() if place):
+    for place, kind in placed(book):
         found, values = decoded(bytes(book[place:place + LENGTHS[kind]]))
         is_tiled = is_tiled and place == at and found == kind
         at += LENGTHS[kind]

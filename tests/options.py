@@ -67,13 +67,14 @@ class Calls:
             self.holds(["one", option], b"", unknown(option))
         self.holds(["-x", "--help"], b"", unknown("-x"))
 
-    def unreadable(self):
-        self.shows(["missing"], self.cannot("open", "missing", GONE))
-        self.shows([""], self.cannot("open", "", GONE))
-        self.shows(["folder"], self.cannot("read", "folder", FOLDER))
-        self.holds(["-"], b"", self.cannot("read", "standard input", FOLDER), stdin=os.open("folder", os.O_RDONLY))
-        self.shows(["x" * 4096], self.cannot("open", "x" * 4096, LONG))
-        self.shows(["x" * 4097], self.cannot("open", TOO_LONG, LONG))
+    def unreadable(self, around=lambda name: [name]):
+        """around: the names of a call with this one, of which the others can be read."""
+        self.shows(around("missing"), self.cannot("open", "missing", GONE))
+        self.shows(around(""), self.cannot("open", "", GONE))
+        self.shows(around("folder"), self.cannot("read", "folder", FOLDER))
+        self.holds(around("-"), b"", self.cannot("read", "standard input", FOLDER), stdin=os.open("folder", os.O_RDONLY))
+        self.shows(around("x" * 4096), self.cannot("open", "x" * 4096, LONG))
+        self.shows(around("x" * 4097), self.cannot("open", TOO_LONG, LONG))
 
     def full(self, args):
         """The output takes nothing."""

@@ -60,12 +60,13 @@ pub fn compare(records: &str, from: impl Read, watch: &mut dyn Watch) -> Result<
         let ours = bytes(answer, &book);
         other.resize(ours.len(), 0);
         let whole = from.read_exact(&mut other).is_ok();
-        let wrong = watch.add(&Step { record: &record, before: &before, answer, book: &book, program: &other });
-        since.push(record);
         if !whole || ours != other {
+            since.push(record);
             differs(histories, &since, &ours, if whole { Some(&other) } else { None }, book.bytes.len());
             return Ok(false);
         }
+        let wrong = watch.add(&Step { record: &record, before: &before, answer, book: &book, program: &other });
+        since.push(record);
         if let Some(what) = wrong {
             println!("{}", what);
             return Ok(false);

@@ -14,7 +14,7 @@ pub const LONG: usize = FULL + 29;
 // ---- damage to a book
 
 // Bytes to replace in a sound book: where, and by what.
-pub fn damage(random: &mut Random, bytes: &[u8], frames: &[Frame]) -> (usize, Vec<u8>) {
+fn damage(random: &mut Random, bytes: &[u8], frames: &[Frame]) -> (usize, Vec<u8>) {
     let offset_of = |frame: &Frame| 4 + 2 * crate::book::slot(frame.kind).expect("a setting");
     let at = |place: usize| bytes[place..place + 2].to_vec();
     let (start, end) = (START as u16, u16::from_be_bytes([bytes[2], bytes[3]]));
@@ -163,6 +163,16 @@ impl<'a, W: Write> History<'a, W> {
             self.poke(at, &data[..data.len().min(bytes.len() - at)])?;
         }
         Ok(())
+    }
+
+    // Damage, or both forms of a setting.
+    pub fn spoil(&mut self) -> Result<()> {
+        if self.random.percent(40) {
+            return self.store_both();
+        }
+        let (bytes, frames) = (self.book.bytes.clone(), self.frames().to_vec());
+        let (at, data) = damage(self.random, &bytes, &frames);
+        self.poke(at, &data[..data.len().min(bytes.len() - at)])
     }
 
     // Both forms of a setting, some calls on that book, and then the old bytes or neither.

@@ -4,7 +4,7 @@ use crate::file::Records;
 use crate::fixed::filling;
 use crate::fixed_sides;
 use crate::frames::{damaged, good, Random};
-use crate::make::{damage, History, Size, LONG};
+use crate::make::{History, Size, LONG};
 use crate::model::{commands, KINDS};
 use crate::record::{Call, Record, Table};
 use crate::sides::{owner, part};
@@ -214,13 +214,7 @@ impl<W: Write> Sharing<'_, W> {
     // Damage, or both forms of a setting, some calls on that book, and then the old bytes or a new book.
     fn damage(&mut self) -> Result<()> {
         let before = self.history.book.bytes.clone();
-        if self.history.random.percent(40) {
-            self.history.store_both()?;
-        } else {
-            let frames = self.history.frames().to_vec();
-            let (at, data) = damage(self.history.random, &before, &frames);
-            self.history.poke(at, &data[..data.len().min(before.len() - at)])?;
-        }
+        self.history.spoil()?;
         for _ in 0..self.history.random.within(1, 4) {
             if self.history.random.percent(60) { self.call_right()? } else { self.call_spoilt()? }
         }

@@ -1,7 +1,8 @@
 // The records of a history, in words and in bytes. tests/README.md has their form.
 pub const HEAD: usize = 12;
-// The longest output that is lent.
+// The longest output that is lent, and that of a controller's calls, with bytes to spare.
 pub const LENT: usize = 512;
+pub const CONTROL_LENT: usize = 16;
 
 // What comes with a side's call: the owner of each slot, and how many bytes of frames each side may hold.
 #[derive(Clone, PartialEq)]
@@ -20,6 +21,34 @@ pub enum Call {
     Replay { output: usize },
 }
 
+// Where a controller stands: so many frames are sent, all is done, or a frame, counted from 1, was judged bad.
+#[derive(Clone, Copy, Debug, PartialEq)]
+pub enum State {
+    Running(u64),
+    Done,
+    Stopped(u64),
+}
+
+impl State {
+    pub fn of(outcome: u8, count: u64) -> State {
+        match outcome {
+            0 => State::Running(count),
+            1 => State::Done,
+            2 => State::Stopped(count),
+            _ => panic!("{} is no outcome", outcome),
+        }
+    }
+
+    // The outcome, and the count.
+    pub fn numbers(self) -> (u8, u64) {
+        match self {
+            State::Running(sent) => (0, sent),
+            State::Done => (1, 0),
+            State::Stopped(position) => (2, position),
+        }
+    }
+}
+
 #[derive(Clone)]
 pub enum Record {
     Lend { length: usize, first: u8 },
@@ -31,6 +60,9 @@ pub enum Record {
     Clear,
     Replay { output: usize },
     Side { caller: u64, table: Table, call: Call },
+    Start,
+    Send { state: State },
+    Hear { state: State, status: Vec<u8> },
 }
 
 use Record::*;
@@ -69,6 +101,9 @@ impl Record {
                 Call::Clear => (12, 0, *caller, data(table, &[])),
                 Call::Replay { output } => (13, *output, *caller, data(table, &[])),
             },
+            Start => (14, CONTROL_LENT, 0, vec![]),
+            Send { state } => (15, CONTROL_LENT, state.numbers().1, vec![state.numbers().0]),
+            Hear { state, status } => (16, CONTROL_LENT, state.numbers().1, [&[state.numbers().0], &status[..]].concat()),
         };
         let mut bytes = vec![operation, data.len() as u8];
         bytes.extend((size as u16).to_be_bytes());
@@ -101,6 +136,9 @@ impl Record {
                 };
                 Side { caller: kind, table, call }
             }
+            14 => Start,
+            15 => Send { state: State::of(data[0], kind) },
+            16 => Hear { state: State::of(data[0], kind), status: data[1..].to_vec() },
             operation => panic!("{} is no operation", operation),
         }
     }
@@ -110,6 +148,7 @@ impl Record {
         match self {
             Ask { output, .. } | Replay { output } => (*output).min(LENT),
             Side { call: Call::Ask { output, .. } | Call::Replay { output }, .. } => (*output).min(LENT),
+            Start | Send { .. } | Hear { .. } => CONTROL_LENT,
             _ => 0,
         }
     }
@@ -124,6 +163,9 @@ impl Record {
             Ask { kind, output } => format!("ask for kind {} with an output of {}", kind, output),
             Clear => "clear".into(),
             Replay { output } => format!("replay with an output of {}", output),
+            Start => "start".into(),
+            Send { state } => format!("send in the state {:?}", state),
+            Hear { state, status } => format!("hear [{}] in the state {:?}", hex(status), state),
             Side { caller, table, call } => {
                 let call = match call {
                     Call::Put { frame } => format!("puts [{}]", hex(frame)),

@@ -89,10 +89,11 @@ pub struct Seen {
     is_spoilt: bool,
 }
 
-// Which of the calls a record is; none for one that only sets the buffer up, and for a side's call.
+// Which of the calls a record is; none for one that only sets the buffer up, and for a side's call or a controller's.
 fn call(record: &Record) -> Option<usize> {
     Some(match record {
         Record::Lend { .. } | Record::Poke { .. } | Record::Side { .. } => return None,
+        Record::Start | Record::Send { .. } | Record::Hear { .. } => return None,
         Record::Make => 0,
         Record::Put { .. } => 1,
         Record::Remove { .. } => 2,

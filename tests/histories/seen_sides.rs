@@ -386,7 +386,7 @@ impl Watch for SeenSides {
                 self.table = None;
                 self.past = [false; 2];
             }
-            Record::Poke { .. } => {}
+            Record::Poke { .. } | Record::Start | Record::Send { .. } | Record::Hear { .. } => {}
             Record::Side { caller, table, call } => self.side(step, *caller, table, call),
             _ => self.whole += 1,
         }

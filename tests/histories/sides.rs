@@ -1,6 +1,7 @@
 // Two sides that share a book. Each has a plain list of its own, which answers its calls; the joint list, which is the book's, gives the bytes.
 // The rules are the request's; nothing of the source is used.
 use crate::book::{counting, held, place, reel, refused, setting, slot, weight, Answer, Book, Frame, FORMS, SLOTS, START};
+use crate::control;
 use crate::record::{Call, Record, Table};
 use std::ops::Deref;
 
@@ -93,6 +94,7 @@ impl Shared {
                 self.book.output = counting(165, record.output());
                 self.side(*caller, table, call).unwrap_or_else(|refusal| refusal)
             }
+            Record::Start | Record::Send { .. } | Record::Hear { .. } => control::carry_out(&mut self.book, record),
             _ => {
                 let answer = self.book.carry_out(record);
                 self.follow(record, answer);

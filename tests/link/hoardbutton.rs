@@ -19,6 +19,9 @@ structs! {
     Frame { refusal: u32, place: u32, len: u32, bytes: [u8; 12] }
     Decoded { refusal: u32, place: u32, kind: u32, count: u32, args: [u64; 9] }
     Answer { refusal: u32, place: u32, value: u64 }
+    Controller { outcome: u64, count: u64 }
+    Control { refusal: u32, place: u32, state: Controller }
+    Sending { refusal: u32, place: u32, over: u32, len: u32, bytes: [u8; 12] }
     Step { refusal: u32, ended: u32, start: u64, end: u64, next: u64 }
     Status { value: u16, irq: bool, ok: bool, cmd: u32, reset_src: u32, chip_mode: u32 }
     LoraRxStats { refusal: u32, status: u16, pkt_rx: u16, crc_error: u16, header_error: u16, detection: u16, false_sync: u16 }
@@ -93,6 +96,10 @@ functions! {
     widths_find(needs: &[u64], codes: &mut [u8]) -> Answer
         = hb_widths_find(*const u64 = needs.as_ptr(), usize = needs.len(), *mut u8 = codes.as_mut_ptr(), usize = codes.len());
     profile(b: &[u8]) -> Answer = hb_profile(*const u8 = b.as_ptr(), usize = b.len());
+    controller_start(b: &[u8]) -> Control = hb_controller_start(*const u8 = b.as_ptr(), usize = b.len());
+    controller_send(b: &[u8], state: Controller) -> Sending = hb_controller_send(*const u8 = b.as_ptr(), usize = b.len(), Controller = state);
+    controller_hear(b: &[u8], state: Controller, status: &[u8]) -> Control
+        = hb_controller_hear(*const u8 = b.as_ptr(), usize = b.len(), Controller = state, *const u8 = status.as_ptr(), usize = status.len());
     reel_step(r: &[u8], at: u64) -> Step = hb_reel_step(*const u8 = r.as_ptr(), usize = r.len(), u64 = at);
     dump(r: &[u8], out: &mut [u8]) -> Answer = hb_dump(*const u8 = r.as_ptr(), usize = r.len(), *mut u8 = out.as_mut_ptr(), usize = out.len());
     play(t: &[u8], b: &mut [u8]) -> Day = hb_play(*const u8 = t.as_ptr(), usize = t.len(), *mut u8 = b.as_mut_ptr(), usize = b.len());

@@ -81,6 +81,6 @@ void builds(builder *build, uint64_t kind, const char *args, const char *frame, 
 void builds_rows(builder *build);
 
 void test_frames(void), test_books(void), test_sides(void), test_radio(void), test_readings(void), test_reels(void), test_rust(void);
-/* The tests of hb_plain, hb_play, the widths and the locker profile: those of C call those of Rust. The tests of the header's names. */
+/* The tests of hb_plain, hb_play, the widths, the locker profile and the controller: those of C call those of Rust. The tests of the header's names. */
 void test_plain(void), test_rust_plain(void), test_plays(void), test_rust_plays(void), test_widths(void), test_rust_widths(void);
-void test_profiles(void), test_rust_profiles(void), test_names(void);
+void test_profiles(void), test_rust_profiles(void), test_controllers(void), test_rust_controllers(void), test_names(void);

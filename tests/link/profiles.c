@@ -1,83 +1,8 @@
-/* hb_profile: books by hand, every combination of what the rules look at, and random books, good and damaged, against a reader of books and rules
- * that stand here (REFERENCE, "Commands", "Book" and "Locker profile"). profiles.rs tries others, against another model. */
-#include "link.h"
+/* hb_profile: books by hand, every combination of what the rules look at, and random books, good and damaged, against the reader of
+ * stored.c and rules that stand here (REFERENCE, "Locker profile"). profiles.rs tries others, against another model. */
+#include "stored.h"
 
-enum { MOST = 4096, LONGEST = 4200, ANSWERS = 12 };
-
-/* ---- a book's bytes a second time */
-
-/* Arguments that not all of their bits' numbers are good for: kind, byte of the frame, low bit, ones; and the codes. */
-static const struct {
-    uint8_t kind, byte, low, ones;
-    const char *codes;
-} coded[] = {{1, 2, 4, 15, "5 6 7 8 9 10 11 12"}, {1, 3, 4, 15, "0 1 2 3 4 5 6 7 8 9"}, {1, 3, 0, 3, "0 1"}, {7, 4, 0, 255, "0 1 16"},
-    {11, 2, 4, 15, "0 1 2 3 4 5 6 7 8"}, {14, 2, 6, 3, "0 1 2"}, {17, 4, 0, 255, "0 8 16 24 32"}, {17, 5, 2, 3, "0 1 2"},
-    {17, 8, 4, 15, "0 1 2 3 4 9 10 11 12"}, {33, 2, 0, 3, "0 1 2"}, {35, 2, 4, 3, "0 1 2"}, {35, 2, 0, 15, "0 1 2 3 4"}, {39, 6, 0, 3, "0 1 2"},
-    {16, 7, 0, 255, "0 17 18 19 20 21 23 24 25 26 27 28 29 30 31 32 33 34 35 36 37 38 39 64 81 82 83 84 85 86 87 88 89 90 91 92 93 94 95 96 97 98 99 100 "
-        "101 102 103 128 136 144 152 153 154 155 156 157 158 159 160 161 162 163 164 165 166 167 192 200 208 209 210 211 212 213 215 216 217 218 219 220 "
-        "222 223 224 225 226 227 228 229 230 231 255"}};
-
-static bool has_codes(uint8_t kind, const uint8_t *frame) {
-    for (size_t i = 0; i < sizeof coded / sizeof *coded; i++) {
-        uint64_t codes[91];
-        if (coded[i].kind != kind) continue;
-        size_t n = numbers(coded[i].codes, codes), at = 0;
-        while (at < n && codes[at] != (uint64_t)(frame[coded[i].byte] >> coded[i].low & coded[i].ones)) at++;
-        if (at == n) return false;
-    }
-    return kind != 20 || frame[10] % 128 <= 64;
-}
-
-/* Whether the bytes are a frame of that kind; they end where such a frame does. */
-static bool decodes(const row *r, const uint8_t *frame) {
-    uint8_t opcode[12], bits[12];
-    hex(r->frame, opcode);
-    hex(r->bits, bits);
-    if (frame[0] != opcode[0] || frame[1] != opcode[1]) return false;
-    for (size_t i = 2; i < r->len; i++)
-        if (frame[i] & ~bits[i - 2]) return false;
-    return has_codes(r->kind, frame);
-}
-
-static size_t word(const uint8_t *at) {
-    return at[0] << 8 | at[1];
-}
-
-/* Where the frame of a kind begins; 0 where there is none. */
-static size_t offset_of(const uint8_t *book, uint64_t kind) {
-    return word(book + 4 + 2 * slot(kind));
-}
-
-/* Each byte between head and end belongs to one frame, and each frame is of its slot's kind. */
-static bool is_tiled(const uint8_t *book, size_t end) {
-    bool taken[LONGEST] = {false};
-    size_t count = 0, slots = 0;
-    for (const row *r = rows; r < rows + KINDS; r++) {
-        size_t at = r->used == ACTION ? 0 : word(book + 4 + 2 * slots++);
-        if (!at) continue;
-        if (at < START || at + r->len > end || !decodes(r, book + at)) return false;
-        for (size_t i = at; i < at + r->len; i++) {
-            if (taken[i]) return false;
-            taken[i] = true;
-        }
-        count++;
-    }
-    for (size_t i = START; i < end; i++)
-        if (!taken[i]) return false;
-    return count == book[1];
-}
-
-/* 11, 10 or 16, or 0 for a book that calls take. */
-static uint32_t fault(const uint8_t *book, size_t n) {
-    if (n < START || n > MOST) return 11;
-    size_t end = word(book + 2);
-    if (book[0] != VERSION || end < START || end > n || !is_tiled(book, end)) return 10;
-    for (size_t i = end; i < n; i++)
-        if (book[i]) return 10;
-    for (size_t i = 0; i < PAIRS; i++)
-        if (offset_of(book, shorter_form(i)->kind) && offset_of(book, shorter_form(i)[1].kind)) return 16;
-    return 0;
-}
+enum { ANSWERS = 12 };
 
 /* ---- the rules a second time */
 
@@ -114,44 +39,6 @@ static hb_answer tried(const uint8_t *book, size_t n) {
     same_answer(got, right.refusal, right.place, right.value);
     met[right.refusal == 0 ? right.value : right.refusal == 11 ? 8 : right.refusal == 10 ? 9 : right.refusal == 16 ? 10 : 11]++;
     return got;
-}
-
-typedef struct {
-    uint64_t kind;
-    size_t len;
-    uint8_t bytes[12];
-} held;
-
-/* A book before it is bytes. */
-static struct {
-    size_t count;
-    held frames[SETTINGS];
-} list;
-
-static void add(uint64_t kind, const char *frame) {
-    list.frames[list.count].kind = kind;
-    list.frames[list.count].len = hex(frame, list.frames[list.count].bytes);
-    list.count++;
-}
-
-static size_t end_of_list(void) {
-    size_t end = START;
-    for (size_t i = 0; i < list.count; i++) end += list.frames[i].len;
-    return end;
-}
-
-static void written(uint8_t *book, size_t n) {
-    size_t at = START;
-    memset(book, 0, n);
-    book[0] = VERSION;
-    book[1] = list.count;
-    for (size_t i = 0; i < list.count; at += list.frames[i++].len) {
-        book[4 + 2 * slot(list.frames[i].kind)] = at >> 8;
-        book[5 + 2 * slot(list.frames[i].kind)] = at;
-        memcpy(book + at, list.frames[i].bytes, list.frames[i].len);
-    }
-    book[2] = at >> 8;
-    book[3] = at;
 }
 
 /* ---- by hand */
@@ -256,12 +143,6 @@ static void combinations(void) {
     same("combinations that keep all rules", met[0], 48);
 }
 
-static bool holds(uint64_t kind) {
-    for (size_t i = 0; i < list.count; i++)
-        if (list.frames[i].kind == kind) return true;
-    return false;
-}
-
 static bool rarely(void) {
     return some() % 12 == 0;
 }
@@ -276,40 +157,15 @@ static void any_list(void) {
         if (some() % 24 == 0) list.frames[i - 1] = list.frames[--list.count];
     for (size_t more = some() % 2 ? some() % 6 : some() % 40; more > 0; more--) {
         const row *r = &rows[some() % KINDS];
-        if (slot(r->kind) < 0 || r->kind == 1 || r->kind == 2 || r->kind == 4 || holds(r->kind)) continue;
-        if (other_form(r->kind) && holds(other_form(r->kind)) && some() % 4) continue;
-        add(r->kind, some() % 2 ? r->frame : r->other);
+        if (r->kind != 1 && r->kind != 2 && r->kind != 4) add_any(some, r);
     }
-    for (size_t i = list.count; i > 1; i--) {
-        size_t j = some() % i;
-        held last = list.frames[i - 1];
-        list.frames[i - 1] = list.frames[j];
-        list.frames[j] = last;
-    }
-}
-
-/* Bytes that are wrong, missing or too many; some leave a book that is one still. Tells the new length. */
-static size_t damaged(uint8_t *book, size_t n) {
-    size_t at = some() % n, slots[] = {4 + 2 * (some() % SLOTS), 4 + 2 * (some() % SLOTS)};
-    switch (some() % 8) {
-    case 0: book[at] ^= 1 << some() % 8; return n;
-    case 1: book[some() % 4] = some(); return n;
-    case 2: book[START + some() % (n - START + 1)] = some(); return n;
-    case 3: return at;
-    case 4: memset(book + n, 0, LONGEST - n); return n + some() % (LONGEST - n + 1);
-    case 5: memcpy(book + slots[0], book + slots[1], 2); return n;
-    case 6: memset(book + slots[0], 0, 2); return n;
-    default: for (size_t i = 0; i < n; i++) book[i] = some(); return n;
-    }
+    shuffle(some);
 }
 
 static void any_book(void) {
     static uint8_t book[LONGEST + 1];
     any_list();
-    size_t n = end_of_list() + (some() % 2 ? some() % 16 : 0);
-    if (some() % 32 == 0) n += some() % (LONGEST - n + 1);
-    written(book, n);
-    if (some() % 4 == 0) n = damaged(book, n);
+    size_t n = any_buffer(some, book);
     trying("hb_profile", "a random book, length", n);
     tried(book, n);
 }

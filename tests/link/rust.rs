@@ -33,6 +33,8 @@ mod rule;
 mod profile;
 #[path = "../oracle/lockers.rs"]
 mod lockers;
+#[path = "controllers.rs"]
+mod controllers;
 #[path = "plain.rs"]
 mod plain;
 #[path = "plays.rs"]
@@ -42,10 +44,14 @@ mod profiles;
 #[path = "widths.rs"]
 mod widths;
 
-// Of the other tests: the plain list, random frames, and the model of playback.
+// Of the other tests: the plain list, the controller over it, random frames, and the model of playback.
 mod book {
     use alloc::vec::Vec;
     include!("../histories/book.rs");
+}
+mod control {
+    use alloc::vec::Vec;
+    include!("../histories/control.rs");
 }
 mod record {
     use alloc::{string::String, vec::Vec};

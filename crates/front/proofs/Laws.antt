@@ -1,6 +1,7 @@
 -- What the specifications of the front's functions come to. A refill keeps just the bytes between its two places (`span-middle`); more
 -- may follow exactly if something came (`came-more`, `none-over`), and not where a read failed (`failed-over`); standard input is descriptor 0 and is
--- called `-` (`standard-called`); where there is no input, nothing is found and nothing altered (`nowhere-left`, `nowhere-unread`).
+-- called `-` (`standard-called`); where there is no input, nothing is found and nothing altered (`nowhere-left`, `nowhere-unread`), and of an input that was
+-- not found nothing is read (`unfound-unread`).
 -- Assumes nothing.
 use mathlib.Core.Path.{_≡_, ap, ap₂, refl, sym, _∙_}
 use mathlib.Core.Bool.{false, true}
@@ -15,7 +16,7 @@ use Rattle.arguments.specs.declared.Place.the-variants.{Nowhere, StandardInput}
 use Rattle.front.specs.declared.Content.{Content}
 use Rattle.front.specs.declared.Fetched.{Fetched}
 use Rattle.front.specs.declared.Input.{Input}
-use Rattle.front.specs.Buffers.{Fetches, Opens, Reads, called, spanOf}
+use Rattle.front.specs.Buffers.{Drawn, Fetches, Opens, Reads, called, spanOf}
 use Rattle.front.proofs.Readers.{span-all, standard-some}
 
 -- ---- a refill
@@ -61,3 +62,8 @@ module _ (s t : List ℕ) (r : Input) where
 pub nowhere-unread : (s t b d : List ℕ) (r : Content) → Reads Nowhere s t b d r → (r .found ≡ false) × (t ≡ s) × (d ≡ b)
 unfolding Reads
 nowhere-unread s t b d r h = (ap (λ (x : Content). x .found) (h .0), h .1, h .2)
+
+pub unfound-unread : (i : Input) (b d : List ℕ) (r : Content) → Drawn i b d r → i .found ≡ false → (r .found ≡ false) × (r .have ≡ 0) × (d ≡ b)
+unfound-unread i b d r h e =
+    let none = h .unfound e in
+    (ap (λ (x : Content). x .found) (none .0), ap (λ (x : Content). x .have) (none .0), none .1)

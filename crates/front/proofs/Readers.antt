@@ -2,7 +2,7 @@
 -- (`read-fetches`, `failed-fetches`), and which bytes a refill keeps (`span-all`, `span-past`, `span-over`; `moved-fetches`).
 -- Assumes nothing.
 use mathlib.Core.Path.{_≡_, ap, refl, subst, sym, _∙_}
-use mathlib.Core.Bool.{Bool, false, false≢true, true}
+use mathlib.Core.Bool.{Bool, false, true}
 use mathlib.Core.List.{List, []}
 use Prim.Native.Nat.{ℕ, _+_, _-_, _<_, _≤_}
 use native.Mathlib.Omega.{arith}
@@ -15,9 +15,10 @@ use Rattle.spans.specs.Spans.{slid}
 use Rattle.spans.proofs.Spans.{slid-fits}
 use Rattle.arguments.specs.declared.Place.{Place}
 use Rattle.arguments.specs.declared.Place.the-variants.{Argument, Nowhere, StandardInput}
+use Rattle.front.specs.declared.Content.{Content}
 use Rattle.front.specs.declared.Fetched.{Fetched}
 use Rattle.front.specs.declared.Input.{Input}
-use Rattle.front.specs.Buffers.{Fetches, Opening, Opens, Reads, called, missing, spanOf, standardIn, standardInput}
+use Rattle.front.specs.Buffers.{Drawn, Fetches, Opening, Opens, Reading, Reads, called, missing, spanOf, standardIn, standardInput}
 
 -- ---- opening
 
@@ -151,17 +152,15 @@ moved-fetches ks us s u t r e l x = subst (λ (k : List ℕ). Fetches k s t r) e
 
 -- ---- an input read whole
 
-module _ (s t b : List ℕ) where
-  -- where it was not opened, and where it was
-  pub reads-unopened : (p : Place) (i : Input) → Opens p s t i → Reads p s t b b (record { found = false; name = i .name; have = 0 })
+module _ (s t b d : List ℕ) (r : Content) where
+  -- what was opened at a place, and then read
+  pub reads-drawn : (p : Place) (i : Input) → Opens p s t i → Drawn i b d r → Reads p s t b d r
   unfolding Opens Reads
-  reads-unopened (Argument k) i h = tt
-  reads-unopened StandardInput i h = (ap (λ (x : Input). x .name) (h .0), h .1)
-  reads-unopened Nowhere i h = (ap (λ (x : Input). record { found = false; name = x .name; have = 0 }) (h .0), h .1, refl)
+  reads-drawn (Argument k) i h w = tt
+  reads-drawn StandardInput i h w = (w .named ∙ ap (λ (x : Input). x .name) (h .0), h .1)
+  reads-drawn Nowhere i h w =
+      let none = w .unfound (ap (λ (x : Input). x .found) (h .0)) in
+      (none .0 ∙ ap (λ (x : Input). record { found = false; name = x .name; have = 0 }) (h .0), h .1, none .1)
 
-  pub reads-opened : (p : Place) (i : Input) → Opens p s t i → i .found ≡ true → (d : List ℕ) (o : Bool) (n : ℕ)
-      → Reads p s t b d (record { found = o; name = i .name; have = n })
-  unfolding Opens Reads
-  reads-opened (Argument k) i h f d o n = tt
-  reads-opened StandardInput i h f d o n = (ap (λ (x : Input). x .name) (h .0), h .1)
-  reads-opened Nowhere i h f d o n = absurd (false≢true (sym (ap (λ (x : Input). x .found) (h .0)) ∙ f))
+  pub reading-drawn : (i : Input) → Opening s t i → Drawn i b d r → Reading s t b d r
+  reading-drawn i h w = record { named = omega (arith, w .named, h .named); long = h .long; most = w .most; whole = w .whole }

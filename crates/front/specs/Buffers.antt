@@ -74,6 +74,14 @@ pub record Fetches (ks s t : List ℕ) (r : Fetched) : Type 0 where
 abbrev pub unread : Content
 unread = record { found = false; name = 0; have = 0 }
 
+-- What reading an input leaves that was opened or not: its name has as many bytes as it had, so many bytes of the buffer were read, and that keeps its
+-- length. Of an input that was not found nothing is read, and the buffer is as it was.
+pub record Drawn (i : Input) (b d : List ℕ) (r : Content) : Type 0 where
+  pub named : r .name ≡ i .name
+  pub most : r .have ≤ length d
+  pub whole : length d ≡ length b
+  pub unfound : i .found ≡ false → (r ≡ record { found = false; name = i .name; have = 0 }) × (d ≡ b)
+
 -- So many bytes at the front of the one buffer are an input's name, so many of the other were read, and both keep their lengths.
 pub record Reading (s t b d : List ℕ) (r : Content) : Type 0 where
   pub named : r .name ≤ length t

@@ -7,7 +7,7 @@ ghost use mathlib.Core.Path.{_≡_};
 ghost use Prim.Native.Nat.{_≤_};
 ghost use lib.ListN.{length, take};
 ghost use Rattle.arguments.specs.Places.{placeAt};
-ghost use Rattle.front.specs.Buffers.{Asks, Fetches, Opening, Opens, Reading, Reads, called, missing, spanOf, standardIn, standardInput};
+ghost use Rattle.front.specs.Buffers.{Asks, Drawn, Fetches, Opening, Opens, Reading, Reads, called, missing, spanOf, standardIn, standardInput};
 use arguments::Inputs;
 use arguments::Place;
 use arguments::Word;
@@ -341,6 +341,30 @@ pub struct Content {
     pub have: usize,
 }
 
+// Reads an input that was opened under this name, as far as the buffer has room, and closes it. One that cannot be read so far is said, and is not found;
+// of one that was not found nothing is read.
+pub fn read_opened(program: &[u8], input: Input, name: &[u8], s: &mut [u8]) -> Content
+    ensures { λ r. ⌜ Drawn input (now (s .entry)) (now (s .exit)) r ⌝ }
+{
+    if !input.found {
+        return Content {
+            found: false,
+            name: input.name,
+            have: 0,
+        };
+    }
+    let f = read_whole(input.fd, s);
+    if f.failed {
+        cannot_read(program, name);
+    }
+    close(input, name);
+    Content {
+        found: !f.failed,
+        name: input.name,
+        have: f.have,
+    }
+}
+
 // Reads input i, as far as the buffer has room. A file that cannot be opened, or read so far, is said, and is not found.
 pub fn read(program: &[u8], inputs: Inputs, i: usize, arg: &mut [u8], s: &mut [u8]) -> Content
     ensures { λ r. ⌜ Reading (now (arg .entry)) (now (arg .exit)) (now (s .entry)) (now (s .exit)) r ⌝ }
@@ -348,21 +372,5 @@ pub fn read(program: &[u8], inputs: Inputs, i: usize, arg: &mut [u8], s: &mut [u
 {
     let input = open(program, inputs, i, arg);
     let name = input.name;
-    if !input.found {
-        return Content {
-            found: false,
-            name,
-            have: 0,
-        };
-    }
-    let f = read_whole(input.fd, s);
-    if f.failed {
-        cannot_read(program, &arg[0..name]);
-    }
-    close(input, &arg[0..name]);
-    Content {
-        found: !f.failed,
-        name,
-        have: f.have,
-    }
+    read_opened(program, input, &arg[0..name], s)
 }

@@ -2,15 +2,12 @@
 ghost use mathlib.Core.Path.{_≡_};
 ghost use Prim.Native.Nat.{_≤_};
 ghost use lib.ListN.{length};
+use crate::control;
 use crate::record;
 use crate::side;
 use book::Answer;
 
 fn low(n: u32) -> u8 {
-    (n % 256) as u8
-}
-
-fn small(n: usize) -> u8 {
     (n % 256) as u8
 }
 
@@ -45,6 +42,7 @@ pub(crate) fn carried(op: u8, r: &[u8], book: &mut [u8], lent: &mut [u8]) -> Ans
         record::CLEAR => book::clear(book),
         record::REPLAY => book::replay(book, lent),
         record::SIDE_PUT..=record::SIDE_REPLAY => side::carried(op, r, book, lent),
+        record::START..=record::HEAR => control::carried(op, r, book, lent),
         _ => Answer::Done(0),
     }
 }
@@ -52,7 +50,7 @@ pub(crate) fn carried(op: u8, r: &[u8], book: &mut [u8], lent: &mut [u8]) -> Ans
 // An answer in four bytes: refusal, or 0 where it is done; place; the number of bytes written, high byte first.
 pub fn told(said: Answer) -> [u8; 4] {
     match said {
-        Answer::Done(n) => [0, 0, small(n / 256), small(n)],
-        Answer::Refused(why) => [low(why.number()), small(why.place()), 0, 0],
+        Answer::Done(n) => [0, 0, record::low(n / 256), record::low(n)],
+        Answer::Refused(why) => [low(why.number()), record::low(why.place()), 0, 0],
     }
 }

@@ -7,6 +7,7 @@ use libc::STDIN_FILENO;
 use libc::STDOUT_FILENO;
 
 mod call;
+mod control;
 mod record;
 mod side;
 

@@ -6,7 +6,7 @@ ghost use lib.ListN.{length};
 // The bytes before the data.
 pub const HEAD: usize = 12;
 
-// The operations: a buffer lent as the book, bytes of it replaced, the book's calls, and those of a side that shares it.
+// The operations: a buffer lent as the book, bytes of it replaced, the book's calls, those of a side that shares it, and a controller's.
 pub const LEND: u8 = 1;
 
 pub const POKE: u8 = 2;
@@ -33,6 +33,12 @@ pub const SIDE_CLEAR: u8 = 12;
 
 pub const SIDE_REPLAY: u8 = 13;
 
+pub const START: u8 = 14;
+
+pub const SEND: u8 = 15;
+
+pub const HEAR: u8 = 16;
+
 fn wide(x: u8) -> u64 {
     x as u64
 }
@@ -41,6 +47,11 @@ pub fn small(x: u8) -> usize
     ensures { λ r. ⌜ r < 256 ⌝ }
 {
     x as usize
+}
+
+// A number's low byte.
+pub fn low(n: usize) -> u8 {
+    (n % 256) as u8
 }
 
 fn least(a: usize, b: usize) -> usize
@@ -106,7 +117,7 @@ pub(crate) fn output_len(r: &[u8], most: usize) -> usize
     ensures { λ n. ⌜ n ≤ most ⌝ }
 {
     match r[0] {
-        ASK | REPLAY | SIDE_ASK | SIDE_REPLAY => least(size(r), most),
+        ASK | REPLAY | SIDE_ASK | SIDE_REPLAY | START | SEND | HEAR => least(size(r), most),
         _ => 0,
     }
 }

@@ -109,6 +109,20 @@ hb-side-replay-once κs a h o u p q i = (same (p .0) (q .0) i, (o .1 .0, (o .1 .
 hb-side-ask-once : Once hoardbutton.shared.hb_side_ask.ended hoardbutton.shared.hb_side_ask.Reads.Pre hoardbutton.shared.hb_side_ask.Reads.Learnt
 hb-side-ask-once κs a h o u p q i = (same (p .0) (q .0) i, (o .1 .0, (o .1 .1 .0, (o .1 .1 .1 .0, (o .1 .1 .1 .1 .0, (o .1 .1 .1 .1 .1 .0, (o .1 .1 .1 .1 .1 .1 .0, (same (p .1) (q .1) i, o .1 .1 .1 .1 .1 .1 .1 .1))))))))
 
+-- ---- controllers
+
+hb-controller-start-once : Once hoardbutton.controllers.hb_controller_start.ended hoardbutton.controllers.hb_controller_start.Reads.Pre
+    hoardbutton.controllers.hb_controller_start.Reads.Learnt
+hb-controller-start-once κs a h o u p q i = (same p q i, o .1)
+
+hb-controller-send-once : Once hoardbutton.controllers.hb_controller_send.ended hoardbutton.controllers.hb_controller_send.Reads.Pre
+    hoardbutton.controllers.hb_controller_send.Reads.Learnt
+hb-controller-send-once κs a h o u p q i = (same p q i, o .1)
+
+hb-controller-hear-once : Once hoardbutton.controllers.hb_controller_hear.ended hoardbutton.controllers.hb_controller_hear.Reads.Pre
+    hoardbutton.controllers.hb_controller_hear.Reads.Learnt
+hb-controller-hear-once κs a h o u p q i = (same p q i, o .1)
+
 -- ---- banks
 
 hb-widths-check-once : Once hoardbutton.banks.hb_widths_check.ended hoardbutton.banks.hb_widths_check.Reads.Pre hoardbutton.banks.hb_widths_check.Reads.Learnt

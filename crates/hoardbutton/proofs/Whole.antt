@@ -103,7 +103,7 @@ low-mode mode.Unknown = refl
 
 -- ---- frames
 
-low-small : (n : ℕ) → n ≤ 255 → low n ≡ n
+pub low-small : (n : ℕ) → n ≤ 255 → low n ≡ n
 low-small n h = omega arith
 
 -- what the decoder hands over

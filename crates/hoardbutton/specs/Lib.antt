@@ -7,3 +7,4 @@ pub mod Radio
 pub mod Readings
 pub mod Reels
 pub mod Plays
+pub mod Controllers

@@ -3,6 +3,7 @@
 pub mod answers;
 pub mod banks;
 pub mod books;
+pub mod controllers;
 pub mod frames;
 pub mod plays;
 pub mod profiles;

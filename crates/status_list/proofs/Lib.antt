@@ -1,0 +1,9 @@
+pub mod Bytes
+pub mod Scans
+pub mod Digits
+pub mod Walks
+pub mod Laws
+pub mod Fronts
+pub mod Hex
+pub mod Examples
+pub mod Outcome
