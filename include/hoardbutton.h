@@ -908,7 +908,7 @@ typedef struct hb_controller {
     uint64_t outcome, count;
 } hb_controller;
 
-/* The state behind a call. Look at refusal first: the state is then the one given, and for a refused start 1 and 0. */
+/* The state behind a call. Look at refusal first: where there is one, the state is the one given, and for a start 1 and 0. */
 typedef struct hb_control {
     uint32_t refusal, place;
     hb_controller state;

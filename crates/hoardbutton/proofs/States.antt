@@ -18,7 +18,6 @@ use Rattle.controller.specs.declared.State.{State}
 use Rattle.controller.specs.declared.State.the-variants.{Done, Running, Stopped}
 use Rattle.controller.specs.declared.Answer.{Answer}
 use Rattle.controller.specs.declared.Answer.the-variants.{Now, Refused}
-use Rattle.controller.specs.declared.Sending.{Sending}
 use Rattle.controller.specs.declared.Turn.{Turn}
 use Rattle.controller.specs.declared.Turn.the-variants as turn
 use Rattle.controller.specs.Controller.{heardOf, heardOn, isGood, isOver, sendingOf, sendsOf, startOf}

@@ -1,6 +1,5 @@
 -- `whole_words` meets its contract: it never goes past the part. Assumes nothing.
 use native.Mathlib.Omega.{arith}
-use borrow.Author.Needs.{needs}
 use Prim.Native.Nat.{_≤_}
 use lib.ListN.{length}
 use Rattle.control.proofs.whole_words.Statement.{statement}

@@ -1,7 +1,6 @@
 use mathlib.Core.Path.{ap, sym, _∙_}
 use mathlib.Core.Bool.{Bool, cond}
 use borrow.Author.Tests.{eq-eqb, ne-eqb}
-use Rattle.hoardbutton.specs.declared.controllers.HbController.{HbController}
 use Rattle.hoardbutton.specs.Controllers.{stateC}
 use Rattle.hoardbutton.proofs.controllers.behind.Statement.{statement}
 use Rattle.hoardbutton.proofs.controllers.behind.Tie as tie

@@ -1,4 +1,4 @@
-use mathlib.Core.Path.{ap, sym, _∙_}
+use mathlib.Core.Path.{ap, _∙_}
 use Rattle.hoardbutton.specs.Controllers.{startC}
 use Rattle.hoardbutton.proofs.controllers.hb_controller_start.Statement.{statement}
 use Rattle.hoardbutton.proofs.controllers.hb_controller_start.Tie as tie

@@ -1,9 +1,7 @@
 use mathlib.Core.Path.{ap, sym, _∙_}
 use borrow.Author.Needs.{needs}
-use Rattle.controller.specs.declared.Answer.{Answer}
 use Rattle.hoardbutton.specs.declared.answers.HbAnswer.{HbAnswer}
 use Rattle.hoardbutton.specs.declared.controllers.HbController.{HbController}
-use Rattle.hoardbutton.specs.declared.controllers.HbControl.{HbControl}
 use Rattle.hoardbutton.specs.Controllers.{hearC}
 use Rattle.hoardbutton.proofs.controllers.heard.Statement.{statement}
 use Rattle.hoardbutton.proofs.controllers.heard.Tie as tie

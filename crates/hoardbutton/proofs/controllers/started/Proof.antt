@@ -2,7 +2,6 @@ use mathlib.Core.Path.{ap, ap₂, sym, _∙_}
 use borrow.Author.Needs.{needs}
 use Rattle.hoardbutton.specs.declared.answers.HbAnswer.{HbAnswer}
 use Rattle.hoardbutton.specs.declared.controllers.HbController.{HbController}
-use Rattle.hoardbutton.specs.declared.controllers.HbControl.{HbControl}
 use Rattle.hoardbutton.specs.Controllers.{startC}
 use Rattle.hoardbutton.proofs.controllers.started.Statement.{statement}
 use Rattle.hoardbutton.proofs.controllers.started.Tie as tie
