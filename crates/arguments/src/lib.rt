@@ -1,5 +1,7 @@
 // What an argument of a program is, for programs that take names of files and a few options, and which inputs the names are.
 // specs/Words.antt and specs/Places.antt have the rules.
+#![tactic(auto)]
+
 ghost use Rattle.std.specs.Prelude.{◌≡◌, ◌<◌, get_or, length};
 ghost use Rattle.arguments.specs.Words.{word_of};
 ghost use Rattle.arguments.specs.Places.{names_of, place_at, places_of};

@@ -1,5 +1,7 @@
 // The text of a list of banks: a line for each bank, its need alone or its need and its code.
 // specs/Lines.antt says what a line is and what it says, specs/Banks.antt what the lines of a text give together.
+#![tactic(auto)]
+
 ghost use Rattle.std.specs.Prelude.{◌≡◌, ◌+◌, ◌-◌, min};
 ghost use Rattle.bank_list.specs.Lines.{body_length, body_of, is_number, is_of, leading_of, number_of, numbered};
 ghost use Rattle.bank_list.specs.Lines.{bank_of, line_of, need_said, proposal_said, skips};

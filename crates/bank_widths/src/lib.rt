@@ -1,6 +1,8 @@
 // Which width of the FSK receive filter each bank gets: a proposed list of codes is judged, or the right one is found.
 // width_rule has the rule, specs/Lists.antt what is answered, and proofs/Laws.antt what follows from them.
 // A width is 40 MHz over a divisor, so the narrowest is that of the greatest divisor, and a need in Hz bounds the divisor.
+#![tactic(auto)]
+
 ghost use Rattle.std.specs.Prelude.{◌≡◌, cond, [], ◌∷◌, ◌++◌, ◌+◌, ◌/◌, ◌≤◌, ◌<◌, get_or, length, take};
 ghost use Rattle.rx_bw.specs.Width.{divisor, is_named, name_of};
 ghost use Rattle.bank_widths.specs.Lists.{found, found_in, if_done, judged, judged_from, lengths_right, right_codes};

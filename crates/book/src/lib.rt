@@ -1,6 +1,8 @@
 // The settings book over a lent buffer, in place: make, put, remove, ask, clear, replay. specs/Plain.antt says what each call does to a
 // plain list of frames, specs/Book.antt what it does to a buffer that holds one; proofs/History.antt has the theorem over every list of calls.
 // Which layout a book has its bytes say (`slots_in`); the edits in place take the number of its slots.
+#![tactic(auto)]
+
 ghost use Rattle.std.specs.Prelude.{◌≡◌, [], ◌+◌, ◌-◌, ◌*◌, ◌<◌, ◌≤◌, length, get_or, take, drop, set};
 ghost use Rattle.std.proofs.Math.Seq.{paste};
 ghost use Rattle.table.specs.Table.{settings};

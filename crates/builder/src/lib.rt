@@ -1,6 +1,8 @@
 // The builders by number: the frame of a kind for its arguments, by the one table, or why there is none. `checked` takes what the kind's
 // fields, limits and enums allow; `plain` takes what the typed builder could be called with, and masks.
 // The laws that tie them to each other and to the decoder are codec's (proofs/Laws.antt).
+#![tactic(auto)]
+
 ghost use Rattle.std.specs.Prelude.{◌≡◌, ◌∷◌, ◌≤◌, ◌<◌, length, replicate};
 ghost use Rattle.frame.specs.Layout.{puts};
 ghost use Rattle.table.specs.Table.{kinds, count_of, numbers_of};

@@ -1,4 +1,6 @@
 // The commands common to all modems, kinds from 24 on: the enums, and the plain builders in the Rust's order. The responses are in rsp.rt.
+#![tactic(auto)]
+
 ghost use Rattle.std.specs.Prelude.{◌≡◌, [], ◌∷◌};
 ghost use Rattle.table.specs.Table.{plain, yes_no};
 ghost use Rattle.cmd_common.specs.Codes.{rx_path_code, rx_boost_code, pa_sel_code, pa_lf_mode_code};

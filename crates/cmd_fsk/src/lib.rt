@@ -1,4 +1,6 @@
 // The FSK commands, kinds 16 to 23: the enums, and the plain builders in the Rust's order. The responses are in rsp.rt.
+#![tactic(auto)]
+
 ghost use Rattle.std.specs.Prelude.{◌≡◌, [], ◌∷◌};
 ghost use Rattle.table.specs.Table.{plain, yes_no};
 ghost use Rattle.cmd_fsk.specs.Codes.{pulse_shape_code, rx_bw_code, pbl_len_detect_code, pld_len_unit_code};

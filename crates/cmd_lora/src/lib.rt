@@ -1,4 +1,6 @@
 // The LoRa commands, kinds 1 to 15: the enums, and the plain builders in the Rust's order. The responses are in rsp.rt.
+#![tactic(auto)]
+
 ghost use Rattle.std.specs.Prelude.{◌≡◌, [], ◌∷◌};
 ghost use Rattle.table.specs.Table.{plain, yes_no};
 ghost use Rattle.cmd_lora.specs.Codes.{sf_code, lora_bw_code, lora_cr_code, ldro_code, lora_filter_code};

@@ -1,4 +1,6 @@
 // Which codes a field takes: lists of codes as words of bits, limits, and whether a value fits its field.
+#![tactic(auto)]
+
 ghost use Rattle.std.specs.Prelude.{◌≡◌, [], ◌^◌, ltb, get_or};
 ghost use Rattle.table.specs.Codes.{lists, is_in, takes};
 ghost use Rattle.table.specs.Number.{codes_of};

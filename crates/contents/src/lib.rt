@@ -1,5 +1,7 @@
 // Which list of frames a buffer's bytes hold, for any layout: whether they are a book at all (`check`), and what its header says.
 // specs/Contents.antt says what is read in bytes, and which bytes a list has; proofs/Judged.antt and proofs/Written.antt that the two agree.
+#![tactic(auto)]
+
 ghost use Rattle.std.specs.Prelude.{◌≡◌, ◌+◌, ◌*◌, ◌<◌, ◌≤◌, length, get_or, drop};
 ghost use Rattle.contents.specs.Contents.{all_zero, frames_from, judge, layout, length_at, offset_at, offset_for};
 ghost use Rattle.contents.specs.Contents.{present_from, slot_at, slot_from, start, verdict_of, word_at};

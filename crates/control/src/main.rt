@@ -1,5 +1,7 @@
 // Plays a book through the controller against statuses that are written down: `control BOOK [STATUSES]`, or `control BOOK` for statuses that come in on
 // standard input; `control --help` says more. control_text has what is printed; here a book and a list are only read for it.
+#![tactic(auto)]
+
 ghost use Rattle.front.specs.Buffers.{Opening};
 ghost use Rattle.std.specs.Prelude.{◌≤◌, length};
 

@@ -1,5 +1,7 @@
 // The text of a run of the controller: a book is played against a list of statuses, a line for each step and a last line.
 // specs/Text.antt has the text, by the controller's own contracts; proofs/Longest.antt that none is longer than the output must be.
+#![tactic(auto)]
+
 ghost use Rattle.std.specs.Prelude.{◌≡◌, [], map, ◌+◌, ◌<◌, ◌≤◌, ◌^◌, length};
 ghost use Rattle.std.proofs.lemmas.List.Edits.{sets};
 ghost use Rattle.texts.specs.Words.{spaced};

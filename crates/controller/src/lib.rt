@@ -1,6 +1,8 @@
 // The controller of a bank: it sends the frames of a book, one at each step, and is handed the two status bytes that came back with each.
 // A step is `send`, which says which bytes go out, and then `hear`, which takes the status; the state goes by value from one to the next.
 // specs/Controller.antt says what a step does; proofs/Laws.antt has the theorems over every list of statuses.
+#![tactic(auto)]
+
 ghost use Rattle.std.specs.Prelude.{◌≡◌, length};
 ghost use Rattle.reel.specs.Reel.{unreel};
 ghost use Rattle.book.specs.Book.{Read, opened_for};

@@ -1,5 +1,7 @@
 // A day's numbers, and what one record of a trace does to them: a command is put into the book and tallied, an answer is read as that of the
 // latest command. specs/Days.antt says what each makes of the numbers, specs/Steps.antt of the book as well; proofs/Counts.antt has the laws.
+#![tactic(auto)]
+
 ghost use Rattle.std.specs.Prelude.{◌≡◌};
 ghost use Rattle.day.specs.Days.{fresh, plus, noted, tallied, missed, on_received};
 ghost use Rattle.day.specs.Days.{heard_lora_rx_stats, heard_lora_packet_status, heard_fsk_rx_stats, heard_fsk_packet_status};

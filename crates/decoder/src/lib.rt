@@ -1,5 +1,7 @@
 // The decoder: a frame's kind and arguments by the one table, or why it has none.
 // The laws that tie it to the builders are codec's (proofs/Laws.antt).
+#![tactic(auto)]
+
 ghost use Rattle.std.specs.Prelude.{◌≡◌, ◌&&◌, ◌+◌, ◌/◌, ◌%◌, ◌^◌, ◌≤◌, ◌<◌, length, take, T};
 ghost use Rattle.frame.specs.Field.{read};
 ghost use Rattle.frame.specs.Layout.{bytes, reads};

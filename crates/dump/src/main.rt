@@ -1,5 +1,7 @@
 // Prints reels, a line for each frame: `dump FILE..`, or `dump` for what comes in on standard input; `dump --help` says more.
 // The lines are those of the crate dump_text; here they are only read for and written out, through buffers of fixed size.
+#![tactic(auto)]
+
 use arguments::Inputs;
 use front::{Asked, Input};
 

@@ -1,5 +1,7 @@
 // The text of a dump: a line for each frame of a reel. specs/Text.antt says what the text of a reel is.
 // `pass` works in parts, so that a reel of any length goes through buffers of fixed size: proofs/Parts.antt says that the parts make up the whole.
+#![tactic(auto)]
+
 ghost use Rattle.std.specs.Prelude.{◌≡◌, true, cond, [], ◌∷◌, ◌+◌, ◌≤◌, length};
 ghost use Rattle.reading.specs.Decimal.{digit, decimal};
 ghost use Rattle.texts.specs.Whole.{told, laid};

@@ -1,6 +1,8 @@
 // A book filled from the front, in any layout: the empty book, a frame behind the others, and the frames of a reel, one behind the other. What does
 // not fit is left undone, so that no call asks anything of its caller. That a frame's setting is not held yet is the caller's to know: calls of a book
 // are made of these, as of those of `spans`. specs/Filling.antt says what each leaves, proofs/Filling.antt which list a filled book holds.
+#![tactic(auto)]
+
 ghost use Rattle.std.specs.Prelude.{◌≡◌, ◌<◌};
 ghost use Rattle.contents.specs.Contents.{layout};
 ghost use Rattle.reel.specs.Reel.{unreel};

@@ -1,5 +1,7 @@
 // The two forms of a setting: some can be sent in a short or in a long frame, and a book holds one of the two at a time.
 // specs/Forms.antt says what that means; which kinds pair stands in the table.
+#![tactic(auto)]
+
 ghost use Rattle.std.specs.Prelude.{◌≡◌, ◌&&◌};
 ghost use Rattle.settings.specs.Settings.{slot_for};
 ghost use Rattle.contents.specs.Contents.{present_for};

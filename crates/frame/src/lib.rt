@@ -1,11 +1,13 @@
 // A field of a frame: a number packed into bytes and read from them, by position, width and byte order.
 // Which fields a command has is the table's; this crate knows no command.
+#![tactic(auto)]
+
 ghost use Rattle.std.specs.Prelude.{◌≡◌, ◌+◌, ◌-◌, ◌*◌, ◌/◌, ◌%◌, ◌^◌, ◌≤◌, ◌<◌};
 ghost use Rattle.frame.specs.Field.{size, rank, place, bits, part, read, sound, Sound};
 ghost use Rattle.frame.specs.Layout.{bytes, put, get};
 
 // Bits 7 to 4 of byte 2 are first 2, lo 4, w 4; bytes 5 to 7 are first 5, lo 0, w 24. With le the low byte stands first.
-#[derive(Drop)]
+#[derive(Clone, Copy)]
 pub struct Field {
     pub first: usize,
     pub lo: usize,

@@ -3,6 +3,8 @@
 // may have to be said, since a message begins with it.
 // What is read and written is the system's. The contracts say how much there is, and what of a lent buffer is as it was (specs/Buffers.antt).
 // A program has no exit status: what could not be done stands on standard error.
+#![tactic(auto)]
+
 ghost use Rattle.std.specs.Prelude.{◌≡◌, ◌≤◌, length, take};
 ghost use Rattle.arguments.specs.Places.{place_at};
 ghost use Rattle.front.specs.Buffers.{Asks, Drawn, Fetches, Opening, Opens, Reading, Reads, called, missing, span_of, standard_in, standard_input};

@@ -1,5 +1,7 @@
 // Replays histories of the book: carries the records on standard input out and answers each on standard output. tests/README.md has the
 // form of both, and tests/histories a plain list that gives the same answers.
+#![tactic(auto)]
+
 ghost use Rattle.std.specs.Prelude.{◌≡◌, ◌+◌, ◌≤◌, length};
 
 use libc::{STDIN_FILENO, STDOUT_FILENO};

@@ -1,5 +1,7 @@
 // The library for C: the functions of include/hoardbutton.h. Each asks a crate under it and hands over the answer as a struct of numbers;
 // specs/ says how. A caller owes that a pointer has as many elements as are said, and that lent buffers do not overlap.
+#![tactic(auto)]
+
 pub mod answers;
 pub mod banks;
 pub mod books;

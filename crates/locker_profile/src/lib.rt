@@ -1,5 +1,7 @@
 // The locker profile: whether a book's LoRa settings keep the seven rules for banks, and else which is the first that they break.
 // specs/Rules.antt has the rules, specs/Profile.antt the answer for a book; proofs/Laws.antt what the answers mean, and what they do not depend on.
+#![tactic(auto)]
+
 ghost use Rattle.std.specs.Prelude.{◌≡◌, not, true, ◌≤◌, ◌<◌};
 ghost use Rattle.table.specs.Table.{settings};
 ghost use Rattle.settings.specs.Settings.{slot_for};

@@ -1,5 +1,7 @@
 // The owner table beside a book that two sides share: whose each slot is, and how many bytes of frames each side may hold.
 // specs/Owners.antt says when a table is right; proofs/Laws.antt what follows from that.
+#![tactic(auto)]
+
 ghost use Rattle.std.specs.Prelude.{◌≡◌, not, [], eqb};
 ghost use Rattle.settings.specs.Settings.{slot_for};
 ghost use Rattle.owners.specs.Owners.{each_side, is_side, joined, owner_of, owner_table, quota_of, spare_first, table_right};

@@ -1,5 +1,7 @@
 // Plays recorded traces, each on a fresh book, and prints a report of each: `play FILE..`, or `play` for what comes in on standard input;
 // `play --help` says more. playback has what a trace gives, report the texts; here traces are only read for them, through a buffer of fixed size.
+#![tactic(auto)]
+
 ghost use Rattle.std.specs.Prelude.{◌≤◌};
 
 use arguments::Inputs;

@@ -1,5 +1,7 @@
 // A recorded day, played again on a fresh book: whole (`play`), or in parts of any size (`pass`). specs/Trace.antt says what records a trace has,
 // specs/Plays.antt what playing them gives, specs/Parts.antt what one pass does; proofs/ has the laws of prefixes, and that parts make up the whole.
+#![tactic(auto)]
+
 ghost use Rattle.std.specs.Prelude.{◌≡◌, true, ◌+◌, ◌<◌, ◌≤◌, length, drop};
 ghost use Rattle.book.specs.Book.{Edit, opened_for, verdict};
 ghost use Rattle.day.specs.Days.{plus};

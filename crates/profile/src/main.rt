@@ -1,5 +1,7 @@
 // Tells of each book whether it keeps the locker profile, the rules for banks: `profile FILE..`, or `profile` for what comes in on standard input;
 // `profile --help` says more. locker_profile has the answer, profile_text its text; here books are only read for them.
+#![tactic(auto)]
+
 use arguments::Inputs;
 use front::Asked;
 

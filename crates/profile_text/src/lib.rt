@@ -1,5 +1,7 @@
 // What the program `profile` prints of a book behind its name: `yes`, the first broken rule, or a refusal.
 // specs/Text.antt has the text; proofs/Longest.antt that none is longer than the output must be, proofs/Apart.antt that it tells which answer it is.
+#![tactic(auto)]
+
 ghost use Rattle.std.specs.Prelude.{◌≡◌, ◌≤◌, length};
 ghost use Rattle.texts.specs.Written.{Puts};
 ghost use Rattle.texts.specs.Whole.{told, laid};

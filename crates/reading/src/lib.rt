@@ -1,5 +1,7 @@
 // Readings: levels and signal-to-noise ratios as exact texts, and the difference of two readings of a counter.
 // The functions follow the definitions of specs/Level.antt and specs/Decimal.antt one by one. Each `push_..` appends to a text, so they compose.
+#![tactic(auto)]
+
 ghost use Rattle.std.specs.Prelude.{◌≡◌, ℕ, List, [], ◌∷◌, ◌++◌, unsigned_abs};
 ghost use Rattle.reading.specs.Decimal.{digit, decimal};
 ghost use Rattle.reading.specs.Level.{signed_of, minus, tenths, hundredths, rssi_text, snr_text, text_of, counter_difference};

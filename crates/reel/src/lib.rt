@@ -1,5 +1,7 @@
 // The reel: frames, each after one length byte, read by a place that each step takes and hands back.
 // specs/Reel.antt says what a step finds, how frames make a reel and what a reel is made of; proofs/Walks.antt that stepping finds just that.
+#![tactic(auto)]
+
 ghost use Rattle.std.specs.Prelude.{◌≡◌};
 ghost use Rattle.reel.specs.Reel.{step_at};
 

@@ -1,4 +1,6 @@
 // Why a call is refused: one enum for the whole library. specs/Numbers.antt has the numbers and places, and says when each is given.
+#![tactic(auto)]
+
 ghost use Rattle.std.specs.Prelude.{◌≡◌};
 ghost use Rattle.refusal.specs.Numbers.{number_of, place_of};
 

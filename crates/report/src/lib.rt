@@ -1,5 +1,7 @@
 // The report of a played day: the text of its numbers, of a frame of its book, and of the place where its trace is faulty.
 // specs/Report.antt has each text; proofs/Longest.antt that none is longer than its output must be. The trace's name is the program's to print.
+#![tactic(auto)]
+
 ghost use Rattle.std.specs.Prelude.{◌≡◌, cond, [], ◌∷◌, ◌≤◌, length};
 ghost use Rattle.reading.specs.Level.{rssi_text, snr_text};
 ghost use Rattle.texts.specs.Words.{spaced};

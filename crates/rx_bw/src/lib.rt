@@ -1,4 +1,6 @@
 // The names of the FSK receive filter's bandwidths, by code byte. cmd_fsk has the enum `RxBw`.
+#![tactic(auto)]
+
 ghost use Rattle.std.specs.Prelude.{◌≡◌};
 ghost use Rattle.rx_bw.specs.Width.{name_of, names};
 

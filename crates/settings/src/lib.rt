@@ -1,5 +1,7 @@
 // The settings among the kinds: the slot that each has in a book, and how long its frame is. Both stand in the heads of the table's rows.
 // specs/Settings.antt says what they are; proofs/Settings.antt has their laws.
+#![tactic(auto)]
+
 ghost use Rattle.std.specs.Prelude.{◌≡◌, ◌/◌, ◌%◌, ◌≤◌};
 ghost use Rattle.settings.specs.Settings.{slot_for, size_of, slot_of};
 

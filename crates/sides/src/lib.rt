@@ -1,6 +1,8 @@
 // One book for two sides, each with its own settings and its own quota of the room: put, remove, ask, clear and replay of a side, made of the
 // book's own calls. specs/Calls.antt says what each call does to a side's own list and to the joint one; proofs/History.antt has the theorem
 // over every list of calls, and proofs/Apart.antt that neither side can tell what the other does.
+#![tactic(auto)]
+
 ghost use Rattle.std.specs.Prelude.{◌≡◌, cond, ◌&&◌, [], ◌*◌, ◌+◌, ◌-◌, ◌<◌, ◌≤◌, eqb, ltb, length, take};
 ghost use Rattle.table.specs.Table.{action, kinds, settings};
 ghost use Rattle.settings.specs.Settings.{size_of, slot_for};

@@ -1,5 +1,7 @@
 // Spans of a lent buffer, in place: a span is written, moved down or up, or set to 0, or a number is stored in two bytes. What does not fit the buffer
 // is left undone, so that no call asks anything of its caller. specs/Spans.antt says what each leaves.
+#![tactic(auto)]
+
 ghost use Rattle.std.specs.Prelude.{◌≡◌, ◌+◌, leb};
 ghost use Rattle.spans.specs.Spans.{stored, written, slid, slid_up, zeroed};
 

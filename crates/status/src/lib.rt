@@ -1,5 +1,7 @@
 // The device status and the interrupts, read from the bytes that the chip sends. specs/ has their numbers and bits.
 // The command crates read their responses with the functions that stand first.
+#![tactic(auto)]
+
 ghost use Rattle.std.specs.Prelude.{◌≡◌, [], ◌∷◌, ◌+◌, ◌*◌, eqb};
 ghost use Rattle.status.specs.Notation.{byte, raised, is_set, mask_of};
 ghost use Rattle.status.specs.Codes.{cmd_code, reset_code, mode_code, cmd_of, reset_of, mode_of, check_of, good_cmd};

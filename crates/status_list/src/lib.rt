@@ -1,6 +1,8 @@
 // The text of a list of statuses: hex words with white space between them, and lines that begin with `#`, which are skipped.
 // specs/Words.antt has the words of a text and what a word says, specs/Found.antt what is found from a place on. `next` steps from word to word:
 // proofs/Laws.antt says that so all words of the text are found, in their order.
+#![tactic(auto)]
+
 ghost use Rattle.std.specs.Prelude.{◌≡◌, false, ◌<◌};
 ghost use Rattle.status_list.specs.Words.{all_digits, begins, digit_of, in_comment, is_blank, pair_of};
 ghost use Rattle.status_list.specs.Found.{byte_before, found_at, line_of, newlines_in, said_by, skipped_from, word_length};

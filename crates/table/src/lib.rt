@@ -1,5 +1,7 @@
 // The command table: ONE constant of named rows (src/kinds.rt) that the plain builders, the checked builder, the decoder and the book read.
 // Its numbers are proved equal to the rows of specs/Table.antt.
+#![tactic(auto)]
+
 ghost use Rattle.std.specs.Prelude.{◌≡◌};
 ghost use Rattle.frame.specs.Layout.{put};
 ghost use Rattle.table.specs.Number.{narrow_of, plain_of};

@@ -1,5 +1,7 @@
 // Texts in a lent output: bytes, words, numbers, and forms with numbers filled in. Each `put_..` writes behind what stands there, as far as the
 // output goes, and hands back where it ended, so they compose. specs/Written.antt says what is put; proofs/Writing.antt joins what was put.
+#![tactic(auto)]
+
 ghost use Rattle.std.specs.Prelude.{◌≡◌, [], ◌∷◌};
 ghost use Rattle.reading.specs.Decimal.{digit, decimal};
 ghost use Rattle.texts.specs.Words.{spaced};

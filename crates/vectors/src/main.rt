@@ -1,5 +1,7 @@
 // Answers the requests on standard input, on standard output: requests of 112 bytes, answers of 80. tests/README.md
 // has their form, and the Rust answers the same requests there. A request that is cut short at the end gets none.
+#![tactic(auto)]
+
 ghost use Rattle.std.specs.Prelude.{◌≡◌, ◌+◌, ◌≤◌, length};
 
 use answer::Answer;

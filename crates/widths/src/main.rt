@@ -1,5 +1,7 @@
 // Finds for each bank of a list the narrowest receive width that suffices, or judges the codes proposed: `widths FILE`, or `widths` for what comes in
 // on standard input; `widths --help` says more. bank_list has what a text says, widths_text the answers; here a list is only read for them, whole.
+#![tactic(auto)]
+
 use bank_list::{Fault, Found};
 use front::Asked;
 

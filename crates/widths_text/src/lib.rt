@@ -1,6 +1,8 @@
 // The answer of the program `widths` as text: a line for each bank with its right code, `ok`, or a refusal.
 // specs/Text.antt has each text; proofs/Longest.antt that none is longer than the output must be, proofs/Laws.antt that the banks kept get the
 // answer that all would get, proofs/Widths.antt that no width is rounded up.
+#![tactic(auto)]
+
 ghost use Rattle.std.specs.Prelude.{◌≡◌, ◌≤◌, min, length};
 ghost use Rattle.texts.specs.Written.{Puts};
 ghost use Rattle.texts.specs.Whole.{told, laid};
