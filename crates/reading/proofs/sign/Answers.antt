@@ -1,5 +1,3 @@
--- `sign` meets its contract.
--- Assumes nothing.
 use Rattle.std.proofs.Common.{[], refl}
 use Rattle.reading.specs.Level.{text_of}
 use Rattle.reading.proofs.sign.Goals as goal
