@@ -3,12 +3,8 @@ use borrow.Author.Rules.{rules}
 use Rattle.table.specs.Codes.{rx_bw_codes, is_in}
 use Rattle.rx_bw.specs.Width.{is_named, name_of}
 use Rattle.rx_bw.proofs.Entries.{entry}
-use Rattle.rx_bw.proofs.rx_bw_tenths.Statement.{statement}
-use Rattle.rx_bw.proofs.rx_bw_tenths.Tie as tie
+use Rattle.rx_bw.proofs.rx_bw_tenths.Goals as goal
 
-returns : tie.Need-returns
+pub returns : goal.returns
 unfolding rx_bw_codes is_in is_named name_of
 returns c = entry name_of 256 c.args.code (search rules)
-
-pub rx-bw-tenths-spec : {M : Type 1} → statement M
-rx-bw-tenths-spec = tie.close (tie.spec (search rules) (search rules) returns)
