@@ -7,7 +7,7 @@ ghost use Rattle.reading.specs.Decimal.{digit, decimal};
 ghost use Rattle.reading.specs.Level.{signed_of, minus, tenths, hundredths, rssi_text, snr_text, text_of, counter_difference};
 
 // A text of at most eight bytes, with zeros behind it.
-#[derive(Drop)]
+#[derive(Clone, Copy)]
 pub struct Text {
     pub bytes: [u8; 8],
     pub len: usize,
@@ -77,7 +77,7 @@ fn magnitude(z: i8) -> u8
 }
 
 // An RSSI: so many half dBm below zero. The chip counts to 511; every u16 has its text.
-#[derive(Drop)]
+#[derive(Clone, Copy)]
 pub struct HalfDbm(pub u16);
 
 impl HalfDbm {
@@ -91,7 +91,7 @@ impl HalfDbm {
 }
 
 // An SNR: so many quarter dB, above or below zero.
-#[derive(Drop)]
+#[derive(Clone, Copy)]
 pub struct QuarterDb(pub i8);
 
 impl QuarterDb {

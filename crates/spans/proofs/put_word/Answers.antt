@@ -1,19 +1,11 @@
-use mathlib.Core.Path.{sym}
-use Prim.Native.Nat.{◌+◌, ◌≤◌}
-use native.Mathlib.Omega.{arith}
-use borrow.Author.Rules.{rules}
-use lib.ListN.{length, length-set}
+use Rattle.std.proofs.Common.{sym}
 use Rattle.spans.specs.Spans.{set_word}
 use Rattle.spans.proofs.Spans.{bounds-in, bounds-out, stored-fits, stored-large, stored-over}
 use Rattle.spans.proofs.put_word.Goals as goal
 
--- past both tests the two bytes lie in the buffer
-room : (c : goal.Then-in_bounds) → c.args.i + 2 ≤ length c.args.b.now
-room c = bounds-in _ _ _ _ c.in_bounds.ensures c.if-in_bounds.true
-
 pub returns-then-in_bounds : goal.returns-then-in_bounds
 unfolding set_word
-returns-then-in_bounds c = sym (stored-fits _ _ _ c.if-v-lt65536.true (room c))
+returns-then-in_bounds c = sym (stored-fits _ _ _ c.if-v-lt65536.true (bounds-in _ _ _ _ c.in_bounds.ensures c.if-in_bounds.true))
 
 pub returns-else-in_bounds : goal.returns-else-in_bounds
 returns-else-in_bounds c = sym (stored-over _ _ _ c.if-v-lt65536.true (bounds-out _ _ _ _ c.in_bounds.ensures c.if-in_bounds.false))

@@ -1,32 +1,24 @@
-use mathlib.Core.Path.{ap, refl, sym, ◌∙◌, ◌≡◌}
-use mathlib.Core.List.{List}
-use Prim.Native.Nat.{ℕ, ◌+◌, ◌-◌, ◌≤◌}
-use native.Mathlib.Omega.{arith}
-use borrow.Author.Rules.{rules}
-use lib.ListN.{get_or, length, length-set, set}
-use lib.Seq.{paste, paste-zero}
+use Rattle.std.proofs.Common.{◌≡◌, ℕ, ◌+◌, List, ap, arith, get_or, length, refl, set, sym, ◌∙◌}
+use Rattle.std.proofs.Math.Seq.{paste}
 use Rattle.spans.proofs.Pastes.{paste-next}
-use Rattle.spans.proofs.Spans.{bounds-in, bounds-out, written-fits, written_over}
+use Rattle.spans.proofs.Spans.{bounds-out, written-fits, written_over}
 use Rattle.spans.proofs.write.Goals as goal
 
 pub loop-i-preserved : goal.loop-i-preserved
 loop-i-preserved c =
-    let at = c.before.before in
-    let a = at.args in (
+    let a = c.args in
+    let i = c.loop-i.i in (
       omega arith,
-      length-set at.loop-i.b _ _ ∙ at.loop-i.invariant.1,
-      ap (λ (l : List ℕ). set l (a.at + at.loop-i.i) (get_or a.s.now at.loop-i.i 0)) at.loop-i.invariant.2
-          ∙ paste-next a.b.now a.at a.s.now at.loop-i.i _ (omega arith) (omega arith) refl,
-      at.loop-i.invariant.3,
+      ap (λ (l : List ℕ). set l (a.at + i) (get_or a.s.now i 0)) c.loop-i.invariant.1
+          ∙ paste-next a.b.now a.at a.s.now i _ (omega arith) (omega arith) refl,
+      c.loop-i.invariant.2,
     )
 
 pub returns-after-loop-i : goal.returns-after-loop-i
 returns-after-loop-i c =
     let a = c.args in
     let e : c.loop-i.i ≡ length c.args.s.now = omega arith in
-    c.loop-i.invariant.2
-    ∙ ap (λ (x : ℕ). paste a.b.now a.at a.s.now x) e
-    ∙ sym (written-fits a.b.now a.at a.s.now c.loop-i.invariant.3)
+    c.loop-i.invariant.1 ∙ ap (λ (x : ℕ). paste a.b.now a.at a.s.now x) e ∙ sym (written-fits a.b.now a.at a.s.now c.loop-i.invariant.2)
 
 pub returns-else-in_bounds : goal.returns-else-in_bounds
 returns-else-in_bounds c = sym (written_over _ _ _ (bounds-out _ _ _ _ c.in_bounds.ensures c.if-in_bounds.false))
