@@ -12,10 +12,8 @@ returns-then-leading-body c = sym (skips-blank c.args.body.now (sym c.leading.en
 
 pub bounds-body-0 : goal.bounds-body-0
 bounds-body-0 c =
-    let l = c.before.before in
-    omega (arith, leading_le Blank l.args.body.now, l.leading.ensures, c.if-leading-body.false)
+    omega (arith, leading_le Blank c.args.body.now, c.leading.ensures, c.if-leading-body.false)
 
 pub returns : goal.returns
 returns c =
-    let l = c.before.before in
-    sym (skips-rest l.args.body.now (λ e. c.if-leading-body.false (l.leading.ensures ∙ e)))
+    sym (skips-rest c.args.body.now (λ e. c.if-leading-body.false (c.leading.ensures ∙ e)))

@@ -7,13 +7,11 @@ use Rattle.bank_list.proofs.leading.Goals as goal
 
 pub loop-n-preserved : goal.loop-n-preserved
 loop-n-preserved c =
-    let l = c.before.before.before.before in
-    (omega arith, leading-pass _ _ _ l.loop-n.invariant.1 (omega arith) (sym c.is_of.ensures ∙ c.if-is_of.true))
+    (omega arith, leading-pass _ _ _ c.loop-n.invariant.1 (omega arith) (sym c.is_of.ensures ∙ c.if-is_of.true))
 
 pub returns-else-is_of : goal.returns-else-is_of
 returns-else-is_of c =
-    let l = c.before.before.before.before in
-    sym (leading-stop _ _ _ l.loop-n.invariant.1 (omega arith) (sym c.is_of.ensures ∙ c.if-is_of.false))
+    sym (leading-stop _ _ _ c.loop-n.invariant.1 (omega arith) (sym c.is_of.ensures ∙ c.if-is_of.false))
 
 pub returns : goal.returns
 returns c = sym (leading_end _ _ _ c.loop-n.invariant.1 c.loop-n-test.false)

@@ -7,13 +7,11 @@ use Rattle.bank_list.proofs.number_of.Goals as goal
 
 pub returns-then-d-value : goal.returns-then-d-value
 returns-then-d-value c =
-    let l = c.before.before.before.before in
-    sym (number_past _ _ _ _ l.loop-i.invariant.2 (omega arith) c.digit_value-d.ensures (omega arith))
+    sym (number_past _ _ _ _ c.loop-i.invariant.2 (omega arith) c.digit_value-d.ensures (omega arith))
 
 pub loop-i-preserved : goal.loop-i-preserved
 loop-i-preserved c =
-    let l = c.before.before.before.before in
-    (omega arith, omega arith, number-pass _ _ _ _ l.loop-i.invariant.2 (omega arith) c.digit_value-d.ensures)
+    (omega arith, omega arith, number-pass _ _ _ _ c.loop-i.invariant.2 (omega arith) c.digit_value-d.ensures)
 
 pub returns : goal.returns
 returns c = sym (number-end _ _ _ 0 c.loop-i.invariant.2 c.loop-i-test.false (omega arith))

@@ -7,12 +7,10 @@ use Rattle.status_list.proofs.said.Goals as goal
 
 pub pair-requires : goal.pair-requires
 pair-requires c =
-    let d = c.before.before in
-    let digits = sym d.all_digits.ensures ∙ d.if-all_digits.true in
+    let digits = sym c.all_digits.ensures ∙ c.if-all_digits.true in
     (digits-at _ _ digits (omega arith), digits-at _ _ digits (omega arith))
 
 pub pair-requires-then-all_digits : goal.pair-requires-then-all_digits
 pair-requires-then-all_digits c =
-    let d = c.before.before.before.before.before in
-    let digits = sym d.all_digits.ensures ∙ d.if-all_digits.true in
+    let digits = sym c.all_digits.ensures ∙ c.if-all_digits.true in
     (digits-at _ _ digits (omega arith), digits-at _ _ digits (omega arith))

@@ -11,17 +11,14 @@ use Rattle.status_list.proofs.skipped.Goals as goal
 
 pub returns-then-word_begins : goal.returns-then-word_begins
 returns-then-word_begins c =
-    let l = c.before.before.before.before in
-    sym (skipped-stop _ _ _ _ _ l.loop-i.invariant.1 (omega arith) (sym c.word_begins.ensures ∙ c.if-word_begins.true))
+    sym (skipped-stop _ _ _ _ _ c.loop-i.invariant.1 (omega arith) (sym c.word_begins.ensures ∙ c.if-word_begins.true))
 
 pub loop-i-preserved : goal.loop-i-preserved
 loop-i-preserved c =
-    let l = c.before.before.before.before.before.before.before in
-    let s = l.args.s.now in
-    let begins = c.before.before.before in (
+    let s = c.args.s.now in (
       omega arith,
-      skipped-pass _ _ _ _ _ l.loop-i.invariant.1 (omega arith) (sym begins.word_begins.ensures ∙ begins.if-word_begins.false)
-          ∙ ap (λ (u : Bool). l.loop-i.i + 1 + skipped_from u (get_or s l.loop-i.i 0) (drop (l.loop-i.i + 1) s)) (sym c.in_comment-c.ensures),
+      skipped-pass _ _ _ _ _ c.loop-i.invariant.1 (omega arith) (sym c.word_begins.ensures ∙ c.if-word_begins.false)
+          ∙ ap (λ (u : Bool). c.loop-i.i + 1 + skipped_from u (get_or s c.loop-i.i 0) (drop (c.loop-i.i + 1) s)) (sym c.in_comment-c.ensures),
     )
 
 pub returns : goal.returns

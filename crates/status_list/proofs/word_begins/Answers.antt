@@ -7,28 +7,23 @@ use Rattle.status_list.proofs.word_begins.Goals as goal
 pub returns-then-is_blank-2 : goal.returns-then-is_blank-2
 unfolding begins
 returns-then-is_blank-2 c =
-    let first = c.before.before in
-    sym (rw (sym first.is_blank.ensures ∙ first.if-is_blank.true, sym c.is_blank-then-is_blank.ensures ∙ c.if-is_blank-2.true))
+    sym (rw (sym c.is_blank.ensures ∙ c.if-is_blank.true, sym c.is_blank-then-is_blank.ensures ∙ c.if-is_blank-2.true))
 
 pub returns-then-in_comment : goal.returns-then-in_comment
 unfolding begins
 returns-then-in_comment c =
-    let second = c.before.before in
-    let first = second.before.before in
     sym (rw (
-      sym first.is_blank.ensures ∙ first.if-is_blank.true,
-      sym second.is_blank-then-is_blank.ensures ∙ second.if-is_blank-2.false,
+      sym c.is_blank.ensures ∙ c.if-is_blank.true,
+      sym c.is_blank-then-is_blank.ensures ∙ c.if-is_blank-2.false,
       sym c.in_comment.ensures ∙ c.if-in_comment.true,
     ))
 
 pub returns-then-is_blank : goal.returns-then-is_blank
 unfolding begins
 returns-then-is_blank c =
-    let second = c.before.before in
-    let first = second.before.before in
     sym (rw (
-      sym first.is_blank.ensures ∙ first.if-is_blank.true,
-      sym second.is_blank-then-is_blank.ensures ∙ second.if-is_blank-2.false,
+      sym c.is_blank.ensures ∙ c.if-is_blank.true,
+      sym c.is_blank-then-is_blank.ensures ∙ c.if-is_blank-2.false,
       sym c.in_comment.ensures ∙ c.if-in_comment.false,
     ))
 

@@ -7,13 +7,11 @@ use Rattle.status_list.proofs.word_length.Goals as goal
 
 pub returns-then-is_blank : goal.returns-then-is_blank
 returns-then-is_blank c =
-    let l = c.before.before.before.before in
-    sym (word-stop _ _ l.loop-n.invariant.1 (omega arith) (sym c.is_blank.ensures ∙ c.if-is_blank.true))
+    sym (word-stop _ _ c.loop-n.invariant.1 (omega arith) (sym c.is_blank.ensures ∙ c.if-is_blank.true))
 
 pub loop-n-preserved : goal.loop-n-preserved
 loop-n-preserved c =
-    let l = c.before.before.before.before in
-    (omega arith, word-pass _ _ l.loop-n.invariant.1 (omega arith) (sym c.is_blank.ensures ∙ c.if-is_blank.false))
+    (omega arith, word-pass _ _ c.loop-n.invariant.1 (omega arith) (sym c.is_blank.ensures ∙ c.if-is_blank.false))
 
 pub returns : goal.returns
 returns c = sym (word_end _ _ c.loop-n.invariant.1 c.loop-n-test.false)
