@@ -82,9 +82,12 @@ def wrapped(line):
     return filled(re.findall(r"\(c(?: \.[\w-]+)*\)+|\S+", line))
 
 
-def keys(count):
-    """What a proof says of the arms of a match on single numbers."""
-    return filled(["(λ c. is (c .match .keys%d))" % n for n in range(1, count + 1)])
+def answers(word, numbers):
+    """What a proof says of the arms of a match on single numbers, each given by a definition of that name; an empty line stands before what follows."""
+    out = []
+    for n in numbers:
+        out += ["", "pub returns-in-%d : goal.returns-in-%d" % (n, n), "unfolding " + word, "returns-in-%d c = is c.in-%d.is" % (n, n)]
+    return out[1:] + [""]
 
 
 def listed(items):
@@ -185,9 +188,9 @@ def head_at(data):
     return at_places(data, lambda k: "kinds::HEAD_%d" % k["kind"])
 
 
-def place_keys(data):
+def place_answers(word):
     """The last row has no number of its own: its arm is for all places from there on."""
-    return keys(len(data["kinds"]) - 1)
+    return lambda data: answers(word, range(len(data["kinds"]) - 1))
 
 
 # ---- codes
@@ -231,8 +234,8 @@ def seat_of(data):
     return arms([("0x" + k["opcode"], "kinds::HEAD_%d" % k["kind"]) for k in seats(data)])
 
 
-def seat_keys(data):
-    return keys(len(seats(data)))
+def seat_answers(data):
+    return answers("seat_of", [int(k["opcode"], 16) for k in seats(data)])
 
 
 def masks(k):
@@ -386,8 +389,8 @@ def head_of(data):
     return arms([(k["slot"], "kinds::HEAD_%d" % k["kind"]) for k in settings(data)])
 
 
-def slot_keys(data):
-    return keys(len(settings(data)))
+def slot_answers(data):
+    return answers("head_of", [k["slot"] for k in settings(data)])
 
 
 def settings_actions(data):
@@ -547,18 +550,18 @@ def made(data):
         "crates/table/src/lib.rt": {"counts": table_counts, "row_at": row_at, "head_at": head_at},
         "crates/table/src/kinds.rt": {None: table_rows},
         "crates/table/src/fields.rt": {None: table_fields},
-        "crates/table/proofs/row_at/Proof.antt": {"arms": place_keys},
-        "crates/table/proofs/head_at/Proof.antt": {"arms": place_keys},
+        "crates/table/proofs/row_at/Answers.antt": {"arms": place_answers("row_at")},
+        "crates/table/proofs/head_at/Answers.antt": {"arms": place_answers("head_at")},
         "crates/codes/src/lib.rt": {"lists": codes_lists},
         "crates/codes/proofs/Listed.antt": {"words": codes_words},
         "crates/decoder/src/seats.rt": {"seat_of": seat_of},
-        "crates/decoder/proofs/seats/seat_of/Proof.antt": {"arms": seat_keys},
+        "crates/decoder/proofs/seats/seat_of/Answers.antt": {"arms": seat_answers},
         "crates/decoder/src/lib.rt": {"held_at": held_at},
-        "crates/decoder/proofs/held_at/Proof.antt": {"arms": place_keys},
+        "crates/decoder/proofs/held_at/Answers.antt": {"arms": place_answers("held_at")},
         "crates/decoder/src/rows.rt": {None: decoder_rows},
         "crates/decoder/proofs/rows/read_row/Proof.antt": {None: read_row_proof},
         "crates/settings/src/lib.rt": {"head_of": head_of},
-        "crates/settings/proofs/head_of/Proof.antt": {"arms": slot_keys},
+        "crates/settings/proofs/head_of/Answers.antt": {"arms": slot_answers},
         "crates/settings/proofs/Settings.antt": {"actions": settings_actions},
         "crates/book/proofs/Full.antt": {"front": full_front, "last": full_last, "slots": full_slots},
         "crates/enums/specs/Enums.antt": {None: enums_specs},
