@@ -365,7 +365,7 @@ def head_of(data):
 
 
 def slot_answers(data):
-    return answers("head_of", [k["slot"] for k in settings(data)])
+    return answers("size_of lengths", [k["slot"] for k in settings(data)])
 
 
 def settings_actions(data):
@@ -536,7 +536,7 @@ def made(data):
             "arms": place_answers("held_of row_at first_word last_word big_end mask_of mask narrows_of narrow_of")},
         "crates/decoder/src/rows.rt": {None: decoder_rows},
         "crates/settings/src/lib.rt": {"head_of": head_of},
-        "crates/settings/proofs/head_of/Proof.antt": {"arms": slot_answers},
+        "crates/settings/proofs/head_of/Answers.antt": {"arms": slot_answers},
         "crates/settings/proofs/Settings.antt": {"actions": settings_actions},
         "crates/book/proofs/Full.antt": {"front": full_front, "last": full_last, "slots": full_slots},
         "crates/enums/specs/Enums.antt": {None: enums_specs},
