@@ -287,6 +287,7 @@ fn with_need(l: Listed, line: usize, need: u64) -> Listed
 }
 
 // What is found with one proposal more, on this line.
+#[tactic(auto, using(crate::proofs::States::proposal_steps))]
 fn with_proposal(l: Listed, line: usize, need: u64, code: u8) -> Listed
     ensures { (p : Parsed) → Paired p → l ≡ listed p → result ≡ listed (after_line p line (Line.Proposal need code)) }
 {

@@ -1,6 +1,7 @@
 -- `put_proposals` meets its contract: a text by what the judgement is.
 -- Assumes nothing.
 use mathlib.Core.Path.{sym, ap, ◌∙◌}
+use native.Mathlib.Omega.{arith}
 use Rattle.texts.proofs.Writing.{puts_then, puts-as}
 use Rattle.widths_text.specs.Text.{judged_text, proposals_text}
 use Rattle.widths_text.proofs.Answers.{refused-served, proposals-right, proposals-other}
@@ -14,7 +15,7 @@ returns-in_default c =
 pub put_right-requires : goal.put_right-requires
 put_right-requires c =
     rw c.place.ensures
-    (refused-served _ _ _ (sym c.check-answer.ensures ∙ c.in-Refused.is) (sym c.number.ensures ∙ c.if-number-eq20.true))
+    (refused-served _ _ _ (sym c.check-answer.ensures ∙ c.in-Refused.is) (omega arith))
 
 pub returns-then-number-eq20 : goal.returns-then-number-eq20
 returns-then-number-eq20 c =
