@@ -23,6 +23,7 @@ pub fn same_bytes(a: &[u8], b: &[u8]) -> bool
     a == b
 }
 
+#[tactic(auto, unfolding(crate::specs::Words::word_of, crate::specs::Words::is_option))]
 pub fn word_of(arg: &[u8]) -> Word
     ensures { result ≡ word_of arg.now }
 {
