@@ -18,7 +18,7 @@ use refusal::Refusal;
 use settings::{size_of, slot_for};
 
 // A call's answer: done, with the number of bytes written where the call writes to an output and else 0; or why it was refused.
-#[derive(Drop)]
+#[derive(Clone, Copy)]
 pub enum Answer {
     Done(usize),
     Refused(Refusal),

@@ -12,28 +12,28 @@ ghost use Rattle.builder.specs.Ways.{takes_by, field_by, row_by, frame_by, made_
 use frame::Field;
 use refusal::Refusal;
 
-#[derive(Drop)]
+#[derive(Clone, Copy)]
 pub enum Verdict {
     Frame(usize),
     Refused(Refusal),
 }
 
 // A frame's length, and its bytes; zeros follow.
-#[derive(Drop)]
+#[derive(Clone, Copy)]
 pub struct Built {
     pub verdict: Verdict,
     pub bytes: [u8; 12],
 }
 
 // Which of the two builders.
-#[derive(Drop)]
+#[derive(Clone, Copy)]
 enum Way {
     Plain,
     Checked,
 }
 
 // Which argument is the first that its field does not take, counted from 1.
-#[derive(Drop)]
+#[derive(Clone, Copy)]
 pub enum Misfit {
     None,
     At(usize),

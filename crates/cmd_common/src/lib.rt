@@ -17,7 +17,7 @@ pub use rsp::{
 // The units of the arguments are those that the Rust states; where it states none, none is given (REFERENCE, "Commands").
 
 // Receive path: low or high frequency.
-#[derive(Drop)]
+#[derive(Clone, Copy)]
 pub enum RxPath {
     LfPath,
     HfPath,
@@ -35,7 +35,7 @@ impl RxPath {
 }
 
 // Receive boost, off to full; a command that brings none leaves it as it was.
-#[derive(Drop)]
+#[derive(Clone, Copy)]
 pub enum RxBoost {
     Off,
     B1,
@@ -65,7 +65,7 @@ impl RxBoost {
 }
 
 // Power amplifier: low or high frequency.
-#[derive(Drop)]
+#[derive(Clone, Copy)]
 pub enum PaSel {
     LfPa,
     HfPa,
@@ -83,7 +83,7 @@ impl PaSel {
 }
 
 // Mode of the low frequency amplifier; the first where it is not used.
-#[derive(Drop)]
+#[derive(Clone, Copy)]
 pub enum PaLfMode {
     LfPaFsm,
     LfPaFdm,
@@ -105,7 +105,7 @@ impl PaLfMode {
 }
 
 // When the radio turns around by itself.
-#[derive(Drop)]
+#[derive(Clone, Copy)]
 pub enum AutoTxrxMode {
     Disable,
     Always,
@@ -125,7 +125,7 @@ impl AutoTxrxMode {
 }
 
 // One of the three timestamps.
-#[derive(Drop)]
+#[derive(Clone, Copy)]
 pub enum TimestampIndex {
     Ts0,
     Ts1,
@@ -145,7 +145,7 @@ impl TimestampIndex {
 }
 
 // The event that a timestamp marks.
-#[derive(Drop)]
+#[derive(Clone, Copy)]
 pub enum TimestampSource {
     None,
     TxDone,
@@ -169,7 +169,7 @@ impl TimestampSource {
 }
 
 // What follows a channel activity detection of the other modems. The Rust's `cmd_common::ExitMode`.
-#[derive(Drop)]
+#[derive(Clone, Copy)]
 pub enum CadExitMode {
     Fallback,
     Tx,

@@ -8,14 +8,14 @@ use refusal::Refusal;
 use status::{Status, half, u32_of};
 
 // The level at this moment, in halves of a dBm below zero.
-#[derive(Drop)]
+#[derive(Clone, Copy)]
 pub struct RssiInstRsp {
     pub status: Status,
     pub rssi: HalfDbm,
 }
 
 // What bytes give: the response, or a refusal where they are not 4.
-#[derive(Drop)]
+#[derive(Clone, Copy)]
 pub enum RssiInstRead {
     Rsp(RssiInstRsp),
     Refused(Refusal),
@@ -50,14 +50,14 @@ impl RssiInstRsp {
 }
 
 // A time stamp: the ticks of the high frequency clock from the event to the request. It is wrong where the chip slept in between.
-#[derive(Drop)]
+#[derive(Clone, Copy)]
 pub struct TimestampValueRsp {
     pub status: Status,
     pub timestamp: u32,
 }
 
 // What bytes give: the response, or a refusal where they are not 6.
-#[derive(Drop)]
+#[derive(Clone, Copy)]
 pub enum TimestampValueRead {
     Rsp(TimestampValueRsp),
     Refused(Refusal),
@@ -97,7 +97,7 @@ impl TimestampValueRsp {
 }
 
 // The lowest, highest and average level that an assessment of the channel met, in halves of a dBm below zero.
-#[derive(Drop)]
+#[derive(Clone, Copy)]
 pub struct CcaResultRsp {
     pub status: Status,
     pub rssi_min: HalfDbm,
@@ -106,7 +106,7 @@ pub struct CcaResultRsp {
 }
 
 // What bytes give: the response, or a refusal where they are not 6.
-#[derive(Drop)]
+#[derive(Clone, Copy)]
 pub enum CcaResultRead {
     Rsp(CcaResultRsp),
     Refused(Refusal),

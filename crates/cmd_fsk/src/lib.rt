@@ -13,7 +13,7 @@ pub mod rsp;
 pub use rsp::{FskPacketStatusRead, FskPacketStatusRsp, FskRxStatsRead, FskRxStatsRsp};
 
 // Pulse shaping filter: Gaussian (Bt), raised cosine (Rc), root raised cosine (Rrc).
-#[derive(Drop)]
+#[derive(Clone, Copy)]
 pub enum PulseShape {
     None,
     Custom,
@@ -59,7 +59,7 @@ impl PulseShape {
 }
 
 // Receive filter bandwidth in kHz; crate rx_bw has the names and widths by code.
-#[derive(Drop)]
+#[derive(Clone, Copy)]
 pub enum RxBw {
     BwAuto,
     Bw3076,
@@ -255,7 +255,7 @@ impl RxBw {
 }
 
 // How many preamble bits are searched for.
-#[derive(Drop)]
+#[derive(Clone, Copy)]
 pub enum PblLenDetect {
     None,
     Len8Bits,
@@ -279,7 +279,7 @@ impl PblLenDetect {
 }
 
 // What a payload length counts.
-#[derive(Drop)]
+#[derive(Clone, Copy)]
 pub enum PldLenUnit {
     Bytes,
     Bits,
@@ -297,7 +297,7 @@ impl PldLenUnit {
 }
 
 // Which addresses the filter compares.
-#[derive(Drop)]
+#[derive(Clone, Copy)]
 pub enum AddrComp {
     Off,
     Node,
@@ -317,7 +317,7 @@ impl AddrComp {
 }
 
 // Fixed length, or a length field of 8, 9 or 16 bits.
-#[derive(Drop)]
+#[derive(Clone, Copy)]
 pub enum FskPktFormat {
     FixedLength,
     Variable8bit,
@@ -339,7 +339,7 @@ impl FskPktFormat {
 }
 
 // CRC length, plain or inverted.
-#[derive(Drop)]
+#[derive(Clone, Copy)]
 pub enum Crc {
     CrcOff,
     Crc1Byte,
@@ -371,7 +371,7 @@ impl Crc {
 }
 
 // Which older chips the whitening agrees with.
-#[derive(Drop)]
+#[derive(Clone, Copy)]
 pub enum WhitenType {
     Sx126xLr11xx,
     Sx128x,
@@ -389,7 +389,7 @@ impl WhitenType {
 }
 
 // Which bit of the syncword goes first.
-#[derive(Drop)]
+#[derive(Clone, Copy)]
 pub enum BitOrder {
     LsbFirst,
     MsbFirst,

@@ -8,7 +8,7 @@ use refusal::Refusal;
 use status::{Status, half, word_at};
 
 // Counts since the last reset: packets, of these with a wrong CRC and with a wrong length, detections, good and failed syncwords, time-outs.
-#[derive(Drop)]
+#[derive(Clone, Copy)]
 pub struct FskRxStatsRsp {
     pub status: Status,
     pub pkt_rx: u16,
@@ -21,7 +21,7 @@ pub struct FskRxStatsRsp {
 }
 
 // What bytes give: the response, or a refusal where they are not 16.
-#[derive(Drop)]
+#[derive(Clone, Copy)]
 pub enum FskRxStatsRead {
     Rsp(FskRxStatsRsp),
     Refused(Refusal),
@@ -63,7 +63,7 @@ impl FskRxStatsRsp {
 
 // What the last packet was received with. pkt_len counts bytes, those that are added in the FIFO among them; the levels are in halves of a dBm
 // below zero, the average and that after the syncword; lqi, the quality of the link, is in quarters of a dB.
-#[derive(Drop)]
+#[derive(Clone, Copy)]
 pub struct FskPacketStatusRsp {
     pub status: Status,
     pub pkt_len: u16,
@@ -75,7 +75,7 @@ pub struct FskPacketStatusRsp {
 }
 
 // What bytes give: the response, or a refusal where they are not 8.
-#[derive(Drop)]
+#[derive(Clone, Copy)]
 pub enum FskPacketStatusRead {
     Rsp(FskPacketStatusRsp),
     Refused(Refusal),

@@ -14,7 +14,7 @@ pub mod rsp;
 pub use rsp::{LoraPacketStatusRead, LoraPacketStatusRsp, LoraRxStatsRead, LoraRxStatsRsp};
 
 // How two values compare.
-#[derive(Drop)]
+#[derive(Clone, Copy)]
 pub enum Ordering {
     Less,
     Equal,
@@ -35,7 +35,7 @@ fn order(a: u64, b: u64) -> Ordering
 }
 
 // Spreading factor: 2^n chips a symbol.
-#[derive(Drop)]
+#[derive(Clone, Copy)]
 pub enum Sf {
     Sf5,
     Sf6,
@@ -72,7 +72,7 @@ impl Sf {
 }
 
 // LoRa bandwidth. The names drop the fraction of the kHz.
-#[derive(Drop)]
+#[derive(Clone, Copy)]
 pub enum LoraBw {
     Bw7,
     Bw15,
@@ -173,7 +173,7 @@ impl LoraBw {
 }
 
 // LoRa coding rate: short interleaving (Si), long interleaving (Li) or convolutional (Cc).
-#[derive(Drop)]
+#[derive(Clone, Copy)]
 pub enum LoraCr {
     NoCoding,
     Cr1Ham45Si,
@@ -243,7 +243,7 @@ impl LoraCr {
 }
 
 // Low data rate optimisation, for long symbols.
-#[derive(Drop)]
+#[derive(Clone, Copy)]
 pub enum Ldro {
     Off,
     On,
@@ -261,7 +261,7 @@ impl Ldro {
 }
 
 // Extra filter for the fractional bandwidths.
-#[derive(Drop)]
+#[derive(Clone, Copy)]
 pub enum LoraFilter {
     Auto,
     Chf,
@@ -283,7 +283,7 @@ impl LoraFilter {
 }
 
 // Whether a packet carries its own header.
-#[derive(Drop)]
+#[derive(Clone, Copy)]
 pub enum HeaderType {
     Explicit,
     Implicit,
@@ -301,7 +301,7 @@ impl HeaderType {
 }
 
 // How a number of symbols is written: plainly, or as mantissa and exponent.
-#[derive(Drop)]
+#[derive(Clone, Copy)]
 pub enum TimeoutFormat {
     Integer,
     Float,
@@ -319,7 +319,7 @@ impl TimeoutFormat {
 }
 
 // What follows a LoRa channel activity detection. The Rust's `cmd_lora::ExitMode`.
-#[derive(Drop)]
+#[derive(Clone, Copy)]
 pub enum LoraCadExitMode {
     CadOnly,
     CadRx,
@@ -339,7 +339,7 @@ impl LoraCadExitMode {
 }
 
 // How many bytes the address filter compares.
-#[derive(Drop)]
+#[derive(Clone, Copy)]
 pub enum AddrLen {
     AddrNone,
     Addr1B,
@@ -371,7 +371,7 @@ impl AddrLen {
 }
 
 // The part that the radio takes in a synchronized transmission.
-#[derive(Drop)]
+#[derive(Clone, Copy)]
 pub enum TimingSyncMode {
     Disabled,
     Initiator,

@@ -15,7 +15,7 @@ fn snr(b: u8) -> QuarterDb
 }
 
 // Counts since the last reset: packets, of these with a wrong CRC and with a wrong header, detected preambles, false synchronizations.
-#[derive(Drop)]
+#[derive(Clone, Copy)]
 pub struct LoraRxStatsRsp {
     pub status: Status,
     pub pkt_rx: u16,
@@ -26,7 +26,7 @@ pub struct LoraRxStatsRsp {
 }
 
 // What bytes give: the response, or a refusal where they are not 12.
-#[derive(Drop)]
+#[derive(Clone, Copy)]
 pub enum LoraRxStatsRead {
     Rsp(LoraRxStatsRsp),
     Refused(Refusal),
@@ -67,7 +67,7 @@ impl LoraRxStatsRsp {
 // What the last packet was received with. Its CRC (a yes or no) and coding rate come from its header, or from the setting where it has none;
 // pkt_length counts bytes; the ratio is in quarters of a dB, the levels in halves of a dBm below zero, that of the signal after despreading.
 // detector has a bit for each path that received it: main, side 1, side 2, side 3 from bit 0 on.
-#[derive(Drop)]
+#[derive(Clone, Copy)]
 pub struct LoraPacketStatusRsp {
     pub status: Status,
     pub crc: bool,
@@ -80,7 +80,7 @@ pub struct LoraPacketStatusRsp {
 }
 
 // What bytes give: the response, or a refusal where they are not 8.
-#[derive(Drop)]
+#[derive(Clone, Copy)]
 pub enum LoraPacketStatusRead {
     Rsp(LoraPacketStatusRsp),
     Refused(Refusal),

@@ -10,7 +10,7 @@ use refusal::Refusal;
 use settings::{size_of, slot_of};
 
 // What is said of a buffer: its bytes are a book of the layout asked for, or why they are not.
-#[derive(Drop)]
+#[derive(Clone, Copy)]
 pub enum Verdict {
     WellFormed,
     Refused(Refusal),

@@ -21,7 +21,7 @@ use texts::{put_byte, put_decimal, put_form, put_text};
 pub const LONGEST: usize = 128 * (forms::MOST_FRAMES + 2);
 
 // What ended a run: it is over, the statuses are, or a word is none.
-#[derive(Drop)]
+#[derive(Clone, Copy)]
 pub enum Halt {
     Ended,
     Waiting,
@@ -29,7 +29,7 @@ pub enum Halt {
 }
 
 // Where the last line begins, how long the text is, and what ended the run. Where a word is wrong there is no last line.
-#[derive(Drop)]
+#[derive(Clone, Copy)]
 pub struct Played {
     pub steps: usize,
     pub len: usize,

@@ -13,7 +13,7 @@ use refusal::Refusal;
 use status::{CmdStatus, Status};
 
 // Where the controller stands: so many frames are sent, all is done, or a frame, counted from 1, was judged bad.
-#[derive(Drop)]
+#[derive(Clone, Copy)]
 pub enum State {
     Running(usize),
     Done,
@@ -21,14 +21,14 @@ pub enum State {
 }
 
 // The state as it is now, or why the book is refused; then the state is what it was.
-#[derive(Drop)]
+#[derive(Clone, Copy)]
 pub enum Answer {
     Now(State),
     Refused(Refusal),
 }
 
 // What a step sends: so many bytes, 0 for the final empty read; nothing, where the work is over; or why the book is refused.
-#[derive(Drop)]
+#[derive(Clone, Copy)]
 pub enum Turn {
     Sends(usize),
     Over,
@@ -36,14 +36,14 @@ pub enum Turn {
 }
 
 // The bytes that a step sends stand first, zeros behind them.
-#[derive(Drop)]
+#[derive(Clone, Copy)]
 pub struct Sending {
     pub turn: Turn,
     pub frame: [u8; 12],
 }
 
 // What comes behind so many frames of a reel: a frame, the final read, or nothing.
-#[derive(Drop)]
+#[derive(Clone, Copy)]
 enum Ahead {
     Frame { start: usize, end: usize },
     Read,

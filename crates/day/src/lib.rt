@@ -13,25 +13,25 @@ use cmd_lora::rsp::{LoraPacketStatusRead, LoraPacketStatusRsp, LoraRxStatsRead, 
 use settings::slot_for;
 
 // The last reading of each of the four requests, if there was one.
-#[derive(Drop)]
+#[derive(Clone, Copy)]
 pub enum LastLoraRxStats {
     Never,
     Last(LoraRxStatsRsp),
 }
 
-#[derive(Drop)]
+#[derive(Clone, Copy)]
 pub enum LastLoraPacketStatus {
     Never,
     Last(LoraPacketStatusRsp),
 }
 
-#[derive(Drop)]
+#[derive(Clone, Copy)]
 pub enum LastFskRxStats {
     Never,
     Last(FskRxStatsRsp),
 }
 
-#[derive(Drop)]
+#[derive(Clone, Copy)]
 pub enum LastFskPacketStatus {
     Never,
     Last(FskPacketStatusRsp),
@@ -39,7 +39,7 @@ pub enum LastFskPacketStatus {
 
 // A day's numbers; its list of frames is in the book. `latest` is the kind of the latest command, 0 where it does not decode or there was none;
 // `refused` has a count for each number from 0 to 8.
-#[derive(Drop)]
+#[derive(Clone, Copy)]
 pub struct Day {
     pub latest: u64,
     pub lora_rx_stats: LastLoraRxStats,

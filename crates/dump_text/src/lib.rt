@@ -19,7 +19,7 @@ use refusal::Refusal;
 const LONGEST: usize = 64;
 
 // How far a pass came: the input bytes that it used, the output bytes that it wrote, and the index of the next frame.
-#[derive(Drop)]
+#[derive(Clone, Copy)]
 pub struct Passed {
     pub used: usize,
     pub written: usize,
@@ -205,7 +205,7 @@ pub fn pass(index: u64, input: &[u8], more: bool, out: &mut [u8]) -> Passed
 // ---- a whole text in one output
 
 // What a dump into one output gives: the bytes of its text, or why there is none.
-#[derive(Drop)]
+#[derive(Clone, Copy)]
 pub enum Dumped {
     Text(usize),
     Refused(Refusal),

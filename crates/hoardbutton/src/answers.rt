@@ -7,7 +7,7 @@ use refusal::Refusal;
 // Done, with the bytes written where a call writes, the number of banks where it judges or finds widths, the broken rule where it judges a profile;
 // or a refusal with its place.
 #[repr(C)]
-#[derive(Drop)]
+#[derive(Clone, Copy)]
 pub struct HbAnswer {
     pub refusal: u32,
     pub place: u32,

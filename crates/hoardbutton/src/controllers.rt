@@ -9,7 +9,7 @@ use controller::{Answer, Sending, State, Turn};
 
 // Outcome 0: running, count frames are sent; 1: done; 2: stopped at frame count, from 1; any other: ended.
 #[repr(C)]
-#[derive(Drop)]
+#[derive(Clone, Copy)]
 pub struct HbController {
     pub outcome: u64,
     pub count: u64,
@@ -17,7 +17,7 @@ pub struct HbController {
 
 // The state behind a call; or a refusal with its place, and the state that was given.
 #[repr(C)]
-#[derive(Drop)]
+#[derive(Clone, Copy)]
 pub struct HbControl {
     pub refusal: u32,
     pub place: u32,
@@ -26,7 +26,7 @@ pub struct HbControl {
 
 // The bytes that a step sends, zeros behind them; or that the work is over; or a refusal with its place.
 #[repr(C)]
-#[derive(Drop)]
+#[derive(Clone, Copy)]
 pub struct HbSending {
     pub refusal: u32,
     pub place: u32,

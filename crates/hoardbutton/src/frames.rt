@@ -10,7 +10,7 @@ use decoder::Answer;
 
 // A frame's length and bytes, zeros behind them; or a refusal with its place.
 #[repr(C)]
-#[derive(Drop)]
+#[derive(Clone, Copy)]
 pub struct HbFrame {
     pub refusal: u32,
     pub place: u32,
@@ -20,7 +20,7 @@ pub struct HbFrame {
 
 // A frame's kind with its first count arguments, zeros behind them; or a refusal with its place.
 #[repr(C)]
-#[derive(Drop)]
+#[derive(Clone, Copy)]
 pub struct HbDecoded {
     pub refusal: u32,
     pub place: u32,

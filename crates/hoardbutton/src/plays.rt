@@ -16,7 +16,7 @@ use playback::Played;
 
 // A day: the refusal with its place, the counts, and the last reading of each request, zeros where there is none.
 #[repr(C)]
-#[derive(Drop)]
+#[derive(Clone, Copy)]
 pub struct HbDay {
     pub refusal: u32,
     pub place: u64,

@@ -18,7 +18,7 @@ use status::{Intr, Status};
 
 // The status word and what its bits say (REFERENCE, "Status and interrupts").
 #[repr(C)]
-#[derive(Drop)]
+#[derive(Clone, Copy)]
 pub struct HbStatus {
     pub value: u16,
     pub irq: bool,
@@ -75,7 +75,7 @@ pub extern "C" fn hb_intr(bytes: &[u8]) -> u32
 }
 
 #[repr(C)]
-#[derive(Drop)]
+#[derive(Clone, Copy)]
 pub struct HbLoraRxStats {
     pub refusal: u32,
     pub status: u16,
@@ -127,7 +127,7 @@ pub extern "C" fn hb_lora_rx_stats(bytes: &[u8]) -> HbLoraRxStats
 }
 
 #[repr(C)]
-#[derive(Drop)]
+#[derive(Clone, Copy)]
 pub struct HbLoraPacketStatus {
     pub refusal: u32,
     pub status: u16,
@@ -185,7 +185,7 @@ pub extern "C" fn hb_lora_packet_status(bytes: &[u8]) -> HbLoraPacketStatus
 }
 
 #[repr(C)]
-#[derive(Drop)]
+#[derive(Clone, Copy)]
 pub struct HbFskRxStats {
     pub refusal: u32,
     pub status: u16,
@@ -243,7 +243,7 @@ pub extern "C" fn hb_fsk_rx_stats(bytes: &[u8]) -> HbFskRxStats
 }
 
 #[repr(C)]
-#[derive(Drop)]
+#[derive(Clone, Copy)]
 pub struct HbFskPacketStatus {
     pub refusal: u32,
     pub status: u16,
@@ -298,7 +298,7 @@ pub extern "C" fn hb_fsk_packet_status(bytes: &[u8]) -> HbFskPacketStatus
 }
 
 #[repr(C)]
-#[derive(Drop)]
+#[derive(Clone, Copy)]
 pub struct HbRssiInst {
     pub refusal: u32,
     pub status: u16,
@@ -325,7 +325,7 @@ pub extern "C" fn hb_rssi_inst(bytes: &[u8]) -> HbRssiInst
 }
 
 #[repr(C)]
-#[derive(Drop)]
+#[derive(Clone, Copy)]
 pub struct HbTimestampValue {
     pub refusal: u32,
     pub status: u16,
@@ -352,7 +352,7 @@ pub extern "C" fn hb_timestamp_value(bytes: &[u8]) -> HbTimestampValue
 }
 
 #[repr(C)]
-#[derive(Drop)]
+#[derive(Clone, Copy)]
 pub struct HbCcaResult {
     pub refusal: u32,
     pub status: u16,

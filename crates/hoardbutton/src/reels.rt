@@ -11,7 +11,7 @@ use reel::{Cursor, Step};
 
 // The bounds of the next frame with the place behind it; or that the reel has ended; or a refusal.
 #[repr(C)]
-#[derive(Drop)]
+#[derive(Clone, Copy)]
 pub struct HbStep {
     pub refusal: u32,
     pub ended: u32,

@@ -15,7 +15,7 @@ use cmd_lora::{HeaderType, Ldro, LoraBw, LoraCr, Sf};
 use refusal::Refusal;
 
 // All rules are kept; or the first broken one, counted from 1; or why the book cannot be judged.
-#[derive(Drop)]
+#[derive(Clone, Copy)]
 pub enum Answer {
     Yes,
     Broken(usize),
@@ -23,7 +23,7 @@ pub enum Answer {
 }
 
 // The arguments that the rules look at, as numbers: four of kind 1, two of kind 2 and that of kind 4.
-#[derive(Drop)]
+#[derive(Clone, Copy)]
 struct Lora {
     pub sf: u64,
     pub lora_bw: u64,
@@ -37,7 +37,7 @@ struct Lora {
 // ---- what the book holds
 
 // What a book says of a setting that it is asked for, and, where it holds it, the setting's arguments.
-#[derive(Drop)]
+#[derive(Clone, Copy)]
 struct Setting {
     pub answer: book::Answer,
     pub args: [u64; 9],

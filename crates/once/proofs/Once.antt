@@ -1,6 +1,6 @@
 -- A contract permits one outcome: any two that it permits of one call are equal.
 -- For each public function `f` of a crate `c` a theorem says so of the contract as written, in two lines:
---     f-once : Once c.f.ended c.f.Reads.Pre c.f.Reads.Learnt
+--     f-once : Once contracts.f.ended c.f.Reads.Pre c.f.Reads.Learnt
 --     f-once κs a h o u p q i = (same p q i, o.1)
 -- Here stand the statement (`Once`, and `OnceSeen` for an answer that is a part of a lent slice) and the one step of its proofs (`same`).
 -- Assumes nothing.

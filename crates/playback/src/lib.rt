@@ -17,7 +17,7 @@ use refusal::Refusal;
 
 // Where a playback stands: before the header; behind it, with so many records left, so many bytes before the next one, and the offset that was
 // reached; or at a fault, with its place.
-#[derive(Drop)]
+#[derive(Clone, Copy)]
 pub enum Stage {
     Header,
     Records { left: usize, skip: usize, at: usize },
@@ -25,21 +25,21 @@ pub enum Stage {
 }
 
 // A playback between two parts; its list of frames is in the book.
-#[derive(Drop)]
+#[derive(Clone, Copy)]
 pub struct Cursor {
     pub stage: Stage,
     pub day: Day,
 }
 
 // What a pass gives: how many bytes it used, or why the book refuses; and where the playback stands.
-#[derive(Drop)]
+#[derive(Clone, Copy)]
 pub struct Passed {
     pub answer: Answer,
     pub cursor: Cursor,
 }
 
 // What a playback gives: done or refused, and the day of the records before a fault.
-#[derive(Drop)]
+#[derive(Clone, Copy)]
 pub struct Played {
     pub answer: Answer,
     pub day: Day,

@@ -8,13 +8,13 @@ ghost use Rattle.reel.specs.Reel.{step_at};
 use refusal::Refusal;
 
 // A place in a reel.
-#[derive(Drop)]
+#[derive(Clone, Copy)]
 pub struct Cursor {
     pub at: usize,
 }
 
 // What a step finds: the bounds of the next frame with the place behind it, the end, or why there is no frame.
-#[derive(Drop)]
+#[derive(Clone, Copy)]
 pub enum Step {
     Frame {
         start: usize,

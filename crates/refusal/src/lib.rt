@@ -5,7 +5,7 @@ ghost use Rattle.std.specs.Prelude.{◌≡◌};
 ghost use Rattle.refusal.specs.Numbers.{number_of, place_of};
 
 // A refusal that has a place carries it: a byte of the frame or of the trace from 0, or an argument or a bank from 1.
-#[derive(Drop)]
+#[derive(Clone, Copy)]
 pub enum Refusal {
     ShortFrame,
     UnknownOpcode,

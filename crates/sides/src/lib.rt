@@ -24,7 +24,7 @@ use settings::{size_of, slot_for};
 // ---- whether a side may call
 
 // How many bytes the frames of each side have.
-#[derive(Drop)]
+#[derive(Clone, Copy)]
 struct Weights {
     first: usize,
     second: usize,

@@ -42,7 +42,7 @@ pub fn half(whole: u8, bit: u8) -> u16
 }
 
 // Why a command did not do its work.
-#[derive(Drop)]
+#[derive(Clone, Copy)]
 pub enum Lr2021Error {
     Pin,
     Spi,
@@ -54,18 +54,18 @@ pub enum Lr2021Error {
 }
 
 // What a check of a status finds.
-#[derive(Drop)]
+#[derive(Clone, Copy)]
 pub enum Checked {
     Ok,
     Err(Lr2021Error),
 }
 
 // The status that comes first with each command: bits 11-9 the command, 8 the interrupt, 7-4 the reset, 2-0 the mode.
-#[derive(Drop)]
+#[derive(Clone, Copy)]
 pub struct Status(pub u16);
 
 // How the last command went.
-#[derive(Drop)]
+#[derive(Clone, Copy)]
 pub enum CmdStatus {
     Fail,
     PErr,
@@ -127,7 +127,7 @@ impl CmdStatus {
 }
 
 // What reset the chip last.
-#[derive(Drop)]
+#[derive(Clone, Copy)]
 pub enum ResetSrc {
     Cleared,
     Analog,
@@ -173,7 +173,7 @@ impl ResetSrc {
 }
 
 // What the chip is doing.
-#[derive(Drop)]
+#[derive(Clone, Copy)]
 pub enum ChipModeStatus {
     Sleep,
     Rc,
@@ -366,7 +366,7 @@ fn fsk_txrx() -> u32
 }
 
 // Interrupts that are raised, or that are to be: a bit for each.
-#[derive(Drop)]
+#[derive(Clone, Copy)]
 pub struct Intr(pub u32);
 
 impl Intr {

@@ -1,0 +1,46 @@
+-- The loop's invariant: what the whole list gives is what the fields from j on put into the bytes so far. Assumes nothing.
+use Prim.Native.Nat.{ℕ, ◌-◌, ◌≤◌}
+use mathlib.Core.Path.{◌≡◌, sym, ap, ◌∙◌}
+use mathlib.Core.List.{List, ◌∷◌}
+use native.Mathlib.Omega.{arith}
+use borrow.Author.Rules.{rules}
+use lib.ListN.{length, drop, replicate}
+use Rattle.frame.specs.declared.Field.{Field}
+use Rattle.frame.specs.Layout.{put, puts}
+use Rattle.table.specs.Table.{count_of, numbers_of}
+use Rattle.builder.specs.Ways.{fields_by, row_by}
+use Rattle.builder.proofs.Arguments.{length-put, packs-more, packs-end}
+use Rattle.builder.proofs.packed.Goals as goal
+
+pub loop-j-init : goal.loop-j-init
+unfolding fields_by
+loop-j-init c =
+    let s = c in (
+      search rules,
+      s.requires.0,
+      s.requires.1,
+      ap length c.put.ensures ∙ length-put _ _ _,
+      ap (λ (o : List ℕ). puts o (fields_by s.args.way (numbers_of s.args.row)) s.args.args.now)
+          (sym (c.put.ensures ∙ ap (λ (f : Field). put (replicate 12 0) f s.args.op) c.field_of.ensures)),
+    )
+
+pub loop-j-preserved : goal.loop-j-preserved
+loop-j-preserved c =
+    let s = c in
+    let l = c.loop-j in
+    let n1 : length s.args.row ≡ 13 = search rules in (
+      omega arith,
+      s.requires.0,
+      s.requires.1,
+      ap length c.put-in-loop-j.ensures ∙ length-put _ _ _ ∙ l.invariant.3,
+      l.invariant.4
+          ∙ packs-more s.args.row n1 s.requires.0 s.args.way s.args.args.now l.out _ _ l.j (omega arith) s.requires.1
+          c.field_of-in-loop-j.ensures c.put-in-loop-j.ensures,
+    )
+
+pub returns : goal.returns
+returns c =
+    let s = c in
+    let l = c.loop-j in
+    let n1 : length s.args.row ≡ 13 = search rules in
+    sym (l.invariant.4 ∙ packs-end s.args.row n1 s.requires.0 s.args.way s.args.args.now l.out l.j (omega arith))

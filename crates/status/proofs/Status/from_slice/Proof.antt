@@ -1,8 +1,0 @@
--- `Status::from_slice` meets its contract.
--- Assumes nothing.
-use borrow.Author.Rules.{rules}
-use Rattle.status.proofs.Status.from_slice.Statement.{statement}
-use Rattle.status.proofs.Status.from_slice.Tie as tie
-
-pub from-slice-spec : {M : Type 1} → statement M
-from-slice-spec = tie.close (tie.spec (search rules) (λ c. cc))
