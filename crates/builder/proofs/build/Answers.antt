@@ -10,32 +10,29 @@ first_misfit-misfit-requires c = few _ c.requires _ c.row_at-row.ensures
 
 pub packed-bytes-requires : goal.packed-bytes-requires
 packed-bytes-requires c =
-    let s = c in
     let r = c.row_at-row in
     let m = c.first_misfit-misfit in
     let n1 : length r.result ≡ 13 = search rules in (
-      few s.args.i s.requires r.result r.ensures,
-      arguments-many s.args.way s.args.i s.requires r.result r.ensures n1 s.args.args.now m.result m.ensures
+      few c.args.i c.requires r.result r.ensures,
+      arguments-many c.args.way c.args.i c.requires r.result r.ensures n1 c.args.args.now m.result m.ensures
           c.in-None.is,
     )
 
 pub returns-in-At : goal.returns-in-At
 returns-in-At c =
-    let s = c in
     let r = c.row_at-row in
     let m = c.first_misfit-misfit in
     let n1 : length r.result ≡ 13 = search rules in
     c.declined.ensures
-    ∙ ap built (built-misfit s.args.way s.args.i s.requires r.result r.ensures n1 s.args.args.now m.result m.ensures _
+    ∙ ap built (built-misfit c.args.way c.args.i c.requires r.result r.ensures n1 c.args.args.now m.result m.ensures _
     c.in-At.is)
 
 pub returns-in-None : goal.returns-in-None
 returns-in-None c =
-    let s = c in
     let r = c.row_at-row in
     let m = c.first_misfit-misfit in
     let n1 : length r.result ≡ 13 = search rules in
-    built-frame s.args.way s.args.i s.requires r.result r.ensures n1 s.args.args.now m.result m.ensures
+    built-frame c.args.way c.args.i c.requires r.result r.ensures n1 c.args.args.now m.result m.ensures
     c.in-None.is
     c.u32_as_u64.result c.u32_as_usize.result c.packed-bytes.result
     c.u32_as_u64.ensures c.u32_as_usize.ensures c.packed-bytes.ensures

@@ -14,33 +14,30 @@ use Rattle.builder.proofs.packed.Goals as goal
 
 pub loop-j-init : goal.loop-j-init
 unfolding fields_by
-loop-j-init c =
-    let s = c in (
-      search rules,
-      s.requires.0,
-      s.requires.1,
-      ap length c.put.ensures ∙ length-put _ _ _,
-      ap (λ (o : List ℕ). puts o (fields_by s.args.way (numbers_of s.args.row)) s.args.args.now)
-          (sym (c.put.ensures ∙ ap (λ (f : Field). put (replicate 12 0) f s.args.op) c.field_of.ensures)),
-    )
+loop-j-init c = (
+  search rules,
+  c.requires.0,
+  c.requires.1,
+  ap length c.put.ensures ∙ length-put _ _ _,
+  ap (λ (o : List ℕ). puts o (fields_by c.args.way (numbers_of c.args.row)) c.args.args.now)
+      (sym (c.put.ensures ∙ ap (λ (f : Field). put (replicate 12 0) f c.args.op) c.field_of.ensures)),
+)
 
 pub loop-j-preserved : goal.loop-j-preserved
 loop-j-preserved c =
-    let s = c in
     let l = c.loop-j in
-    let n1 : length s.args.row ≡ 13 = search rules in (
+    let n1 : length c.args.row ≡ 13 = search rules in (
       omega arith,
-      s.requires.0,
-      s.requires.1,
+      c.requires.0,
+      c.requires.1,
       ap length c.put-in-loop-j.ensures ∙ length-put _ _ _ ∙ l.invariant.3,
       l.invariant.4
-          ∙ packs-more s.args.row n1 s.requires.0 s.args.way s.args.args.now l.out _ _ l.j (omega arith) s.requires.1
+          ∙ packs-more c.args.row n1 c.requires.0 c.args.way c.args.args.now l.out _ _ l.j (omega arith) c.requires.1
           c.field_of-in-loop-j.ensures c.put-in-loop-j.ensures,
     )
 
 pub returns : goal.returns
 returns c =
-    let s = c in
     let l = c.loop-j in
-    let n1 : length s.args.row ≡ 13 = search rules in
-    sym (l.invariant.4 ∙ packs-end s.args.row n1 s.requires.0 s.args.way s.args.args.now l.out l.j (omega arith))
+    let n1 : length c.args.row ≡ 13 = search rules in
+    sym (l.invariant.4 ∙ packs-end c.args.row n1 c.requires.0 c.args.way c.args.args.now l.out l.j (omega arith))

@@ -1,8 +1,0 @@
-use borrow.Author.Rules.{rules}
-use Rattle.cmd_common.proofs.set_cca_cmd.Statement.{statement}
-use Rattle.cmd_common.proofs.set_cca_cmd.Tie as tie
-
-pub set-cca-cmd-spec : {M : Type 1} → statement M
-set-cca-cmd-spec =
-    tie.close
-    (tie.spec (search rules) (search rules) (search rules) (search rules) (λ c. cc))

@@ -1,9 +1,0 @@
-use borrow.Author.Rules.{rules}
-use Rattle.cmd_common.proofs.set_rx_path_adv_cmd.Statement.{statement}
-use Rattle.cmd_common.proofs.set_rx_path_adv_cmd.Tie as tie
-
-pub set-rx-path-adv-cmd-spec : {M : Type 1} → statement M
-set-rx-path-adv-cmd-spec =
-    tie.close
-    (tie.spec (search rules) (search rules) (search rules) (search rules) (search rules) (search rules)
-    (search rules) (search rules) (λ c. cc))

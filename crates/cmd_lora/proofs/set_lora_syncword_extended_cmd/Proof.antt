@@ -1,8 +1,0 @@
-use borrow.Author.Rules.{rules}
-use Rattle.cmd_lora.proofs.set_lora_syncword_extended_cmd.Statement.{statement}
-use Rattle.cmd_lora.proofs.set_lora_syncword_extended_cmd.Tie as tie
-
-pub set-lora-syncword-extended-cmd-spec : {M : Type 1} → statement M
-set-lora-syncword-extended-cmd-spec =
-    tie.close
-    (tie.spec (search rules) (search rules) (search rules) (search rules) (search rules) (search rules) (λ c. cc))

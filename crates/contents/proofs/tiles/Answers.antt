@@ -1,0 +1,27 @@
+use mathlib.Core.Path.{sym, ◌∙◌, ◌≡◌}
+use Prim.Native.Nat.{◌-◌, ◌≤◌}
+use native.Mathlib.Omega.{arith}
+use borrow.Author.Rules.{rules}
+use borrow.Author.Tests.{eq-eqb, ne_eqb}
+use Rattle.contents.specs.Contents.{frames_from, start, verdict_of}
+use Rattle.contents.proofs.Loops.{frames_from-end, frames_from-pass, frames_from-stop, less_zero}
+use Rattle.contents.proofs.tiles.Goals as goal
+
+pub returns-then-n-eq0 : goal.returns-then-n-eq0
+returns-then-n-eq0 c =
+    sym (c.loop-i.invariant.3
+    ∙ frames_from-stop _ _ _ _ _ _ c.loop-i-test.true (sym c.len_at-n.ensures.0 ∙ c.if-n-eq0.true))
+
+pub loop-i-preserved : goal.loop-i-preserved
+loop-i-preserved c = (
+  omega arith,
+  omega arith,
+  omega arith,
+  c.loop-i.invariant.3 ∙ frames_from-pass _ _ _ _ _ _ _ c.loop-i-test.true c.len_at-n.ensures.0 c.if-n-eq0.false,
+)
+
+pub returns-then-p-e : goal.returns-then-p-e
+returns-then-p-e c = sym (c.loop-i.invariant.3 ∙ frames_from-end _ _ _ _ _ _ c.loop-i-test.false ∙ rw (eq-eqb _ _ c.if-p-e.true))
+
+pub returns : goal.returns
+returns c = sym (c.loop-i.invariant.3 ∙ frames_from-end _ _ _ _ _ _ c.loop-i-test.false ∙ rw (ne_eqb _ _ c.if-p-e.false))

@@ -1,0 +1,33 @@
+-- The loop's invariant: `low` is the answer for the fields from j on. Assumes nothing.
+use Prim.Native.Nat.{ℕ, ◌≤◌}
+use mathlib.Core.Path.{◌≡◌, sym, ap, ◌∙◌}
+use mathlib.Core.List.{List}
+use native.Mathlib.Omega.{arith}
+use borrow.Author.Rules.{rules}
+use lib.ListN.{length, drop, take}
+use Rattle.table.specs.Table.{count_of, numbers_of}
+use Rattle.decoder.specs.Decoding.{lower, lacking}
+use Rattle.decoder.proofs.Fields.{lacking-none, lacking-more}
+use Rattle.decoder.proofs.first_lacking.Invariants.{from}
+use Rattle.decoder.proofs.first_lacking.Goals as goal
+
+pub loop-j-init : goal.loop-j-init
+loop-j-init c =
+    let a = c.args in
+    let n1 : length a.row ≡ 13 = search rules in (
+      omega arith,
+      c.requires,
+      sym (lacking-none a.row n1 c.requires a.n (drop (count_of a.row) (take (count_of a.row) a.args)))
+          ∙ sym (ap (from a.n a.row a.args) c.u32_as_usize-j.ensures),
+    )
+
+pub loop-j-preserved : goal.loop-j-preserved
+loop-j-preserved c =
+    let l = c.loop-j in
+    let n1 : length c.args.row ≡ 13 = search rules in
+    let n2 : length c.args.args ≡ 9 = search rules in (
+      omega arith,
+      c.requires,
+      c.lowered-next.ensures ∙ ap (lower _ _) l.invariant.2 ∙ lacking-more c.args.row n1 c.requires c.args.n c.args.args l.j n2
+          c.loop-j-test.true l.invariant.0,
+    )

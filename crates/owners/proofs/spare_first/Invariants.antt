@@ -1,0 +1,13 @@
+use mathlib.Core.Path.{refl, sym, ◌∙◌, ◌≡◌}
+use Prim.Native.Nat.{◌-◌}
+use borrow.Author.Rules.{rules}
+use lib.ListN.{drop, length}
+use Rattle.owners.specs.Owners.{all_first, spare_first}
+use Rattle.owners.proofs.Loops.{spare-end, spare-pass, spare-stop}
+use Rattle.owners.proofs.spare_first.Given as goal
+
+abbrev pub invariant-loop-i : goal.invariant-loop-i
+invariant-loop-i l = spare_first l.owners ≡ all_first (drop l.i l.owners)
+
+abbrev pub decreases-loop-i : goal.decreases-loop-i
+decreases-loop-i l = length l.owners - l.i

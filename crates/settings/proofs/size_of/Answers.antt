@@ -1,0 +1,7 @@
+use native.Mathlib.Omega.{arith}
+use borrow.Author.Rules.{rules}
+use Rattle.settings.proofs.Settings.{size-most}
+use Rattle.settings.proofs.size_of.Goals as goal
+
+pub returns : goal.returns
+returns c = (c.head_of.ensures, omega (arith, c.head_of.ensures, size-most c.args.slot))
