@@ -9,6 +9,7 @@ from commands import MOST_ARGUMENTS, MOST_KINDS, WORD, bits, codes_of, enum_of, 
 
 MADE_BY = "Made from docs/commands.json by docs/make_reference.py"
 LINE, SOURCE_LINE, CALL = 160, 100, 60  # columns of a proof, and of a source and its calls as rt fmt has them
+SHORT = 10  # of an array whose items are no longer, rt fmt fills the lines
 FIRST_FIELD = 4  # opcode, length, slot and number of fields stand before the fields of a row
 
 
@@ -42,11 +43,35 @@ def call(head, items, tail, indent):
     return [indent + head] + ["%s    %s," % (indent, item) for item in items] + [indent + tail]
 
 
-def filled(words, indent="    "):
-    """Lines of at most 160 columns, broken between words."""
+def array(head, items, tail, indent=""):
+    """An array as rt fmt lays it out: as a call, but that short items fill their lines."""
+    lines = call(head, items, tail, indent)
+    if len(lines) == 1 or max(map(len, items)) > SHORT:
+        return lines
+    return [indent + head] + filled([item + "," for item in items], indent + "    ", SOURCE_LINE) + [indent + tail]
+
+
+def imports(uses):
+    """`use` lines as rt fmt has them: this crate's first, and one for each module; in several lines where it is longer than 100 columns."""
+    modules, out = {}, []
+    for use in uses:
+        module, name = use.rsplit("::", 1)
+        modules.setdefault(module, []).append(name)
+    for module in sorted(modules, key=lambda module: (module.split("::")[0] != "crate", module)):
+        names = sorted(modules[module])
+        one_line = "use %s::%s;" % (module, names[0] if len(names) == 1 else "{%s}" % ", ".join(names))
+        if len(one_line) <= SOURCE_LINE:
+            out.append(one_line)
+        else:
+            out += ["use %s::{" % module] + filled([name + "," for name in names], limit=SOURCE_LINE) + ["};"]
+    return out
+
+
+def filled(words, indent="    ", limit=LINE):
+    """Lines of at most so many columns, broken between words."""
     lines = [indent]
     for word in words:
-        if lines[-1] != indent and len(lines[-1]) + 1 + len(word) > LINE:
+        if lines[-1] != indent and len(lines[-1]) + 1 + len(word) > limit:
             lines.append(indent)
         lines[-1] += word if lines[-1] == indent else " " + word
     return lines
@@ -98,7 +123,7 @@ def row_constant(data, k):
     cells = [cell(data, a)[0] for a in k["arguments"]]
     head = ["0x" + k["opcode"], str(k["length"]), "ACTION" if k["slot"] is None else str(k["slot"]), str(len(cells))]
     size = FIRST_FIELD + MOST_ARGUMENTS
-    return call("pub const ROW_%d: [u32; %d] = [" % (k["kind"], size), head + cells + ["0"] * (MOST_ARGUMENTS - len(cells)), "];", "")
+    return array("pub const ROW_%d: [u32; %d] = [" % (k["kind"], size), head + cells + ["0"] * (MOST_ARGUMENTS - len(cells)), "];")
 
 
 def twin(data, k):
@@ -125,7 +150,7 @@ def table_rows(data):
     cells = sorted({cell(data, a) for k in data["kinds"] for a in k["arguments"]}, key=lambda c: c[1])
     out = ["// %s: the cells, the rows, the pairs of forms and the heads." % MADE_BY,
            "// The check refuses a number that is not as specs/Table.antt has it.",
-           "use crate::ACTION;", "use crate::KINDS;", "use crate::PAIRS;", "",
+           "use crate::{ACTION, KINDS, PAIRS};", "",
            "// The fields' numbers, named by their places: B2_7_4 is byte 2, bits 7 to 4; W2_3 is bytes 2 and 3; L3_10 is bytes 3 to 10, low byte first.",
            "// C stands for B or W where the argument is a code: an enum's, or a yes or no. %s: one of that list of codes;" % endings,
            "// _TO9: nothing above 9; _CUT3: narrowed to 3 bits.",
@@ -134,10 +159,10 @@ def table_rows(data):
     out += constants(["const %s: u32 = %s;" % (name, hexed(number, 8)) for name, number in cells])
     out += ["", "// ROW_k is kind k: opcode, length, slot, number of fields, and the fields in the Rust's argument order."]
     out += constants(["\n".join(row_constant(data, k)) for k in data["kinds"]])
-    out += [""] + ["pub const TABLE: [[u32; %d]; KINDS as usize] = [" % (FIRST_FIELD + MOST_ARGUMENTS)]
-    out += ["    ROW_%d," % k["kind"] for k in data["kinds"]] + ["];", ""]
+    out += [""] + array("pub const TABLE: [[u32; %d]; KINDS as usize] = [" % (FIRST_FIELD + MOST_ARGUMENTS),
+                        ["ROW_%d" % k["kind"] for k in data["kinds"]], "];") + [""]
     out += ["// The kinds that are one setting in two lengths, the shorter form first."]
-    out += call("pub const FORMS: [[u64; 2]; PAIRS] = [", ["[%d, %d]" % tuple(pair) for pair in data["forms"]], "];", "")
+    out += array("pub const FORMS: [[u64; 2]; PAIRS] = [", ["[%d, %d]" % tuple(pair) for pair in data["forms"]], "];")
     out += ["", "// HEAD_k is what the code wants of row k beside its fields (specs/Heads.antt). In hex: two digits for the row's place, two for the",
             "// slot, the number of fields, the length, and the length of the next row where that has the same opcode."]
     return out + constants(["\n".join(head_constant(data, k)) for k in data["kinds"]])
@@ -186,7 +211,7 @@ def codes_lists(data):
     out += ["const COUNT: usize = %d;" % len(data["lists"]), "", "const LISTS: [[u64; 4]; COUNT] = ["]
     for e in lists(data):
         said = ["%s_%d" % (snake(e["name"]), 64 * w) for w in range(4)] if e in wide else [hexed(words(e)[0]), "0", "0", "0"]
-        out += call("[", said, "],", "    ")
+        out += array("[", said, "],", "    ")
     return out + ["];"]
 
 
@@ -239,13 +264,13 @@ def reader_arm(k, last):
 
 
 # What a reader of rows gives: whether the frame is good, and its arguments.
-READS = "    ensures { λ r. ⌜ (r ≡ goodFrame (rowAt i) (now (frame .entry))) × (now (args .exit) ≡ nineIn (rowAt i) (now (frame .entry))) ⌝ }"
+READS = "    ensures { (result ≡ good_frame (row_at i) frame.now) × (args.new ≡ nine_in (row_at i) frame.now) }"
 
 
 def reader(name, at, kinds):
     out = ["// The same for a row of cmd_%s." % name,
            "fn read_%s(i: usize, frame: &[u8], args: &mut [u64; %d]) -> bool" % (name, MOST_ARGUMENTS),
-           "    requires { ⌜ (%d ≤ i) × (i < %d) × (lenOf (rowAt i) ≡ length (now frame)) ⌝ }" % (at, at + len(kinds)),
+           "    requires { (%d ≤ i) × (i < %d) × (len_of (row_at i) ≡ length frame.now) }" % (at, at + len(kinds)),
            READS, "{", "    match i {"]
     return out + [line for k in kinds for line in reader_arm(k, k is kinds[-1])] + ["    }", "}"]
 
@@ -255,13 +280,13 @@ def decoder_rows(data):
            "// Length and fields are constants there, so that what reads a field is a shift and a cut by numbers that the compiler knows. A place, a",
            "// length or a field that is not the row's is refused by the proof. A short frame has no first word, and most rows have no field of",
            "// eight bytes: both are then 0.",
-           "ghost use mathlib.Core.Path.{_≡_};", "ghost use Prim.Native.Nat.{_<_, _≤_};", "ghost use lib.ListN.{length};",
-           "ghost use Rattle·table.specs.Table.{kinds, rowAt, lenOf};", "ghost use Rattle·decoder·specs.specs.Words.{goodFrame, nineIn};",
-           "use crate::first_of;", "use crate::last_of;", "use crate::read_fields;", "use table::fields;", "",
+           "ghost use Rattle.std.specs.Prelude.{◌≡◌, ◌<◌, ◌≤◌, length};",
+           "ghost use Rattle.table.specs.Table.{kinds, row_at, len_of};", "ghost use Rattle.decoder.specs.Words.{good_frame, nine_in};", "",
+           "use crate::{first_of, last_of, read_fields};", "use table::fields;", "",
            "// No field.", "const NONE: u32 = 0;", "",
            "// The arguments of a frame with the length of the row at a place; whether it has no stray bit, and each of them is taken.",
            "pub(crate) fn read_row(i: usize, frame: &[u8], args: &mut [u64; %d]) -> bool" % MOST_ARGUMENTS,
-           "    requires { ⌜ (i < kinds) × (lenOf (rowAt i) ≡ length (now frame)) ⌝ }",
+           "    requires { (i < kinds) × (len_of (row_at i) ≡ length frame.now) }",
            READS, "{"]
     for (name, _, _), behind in zip(files(data), files(data)[1:] + [None]):
         told = "read_%s(i, frame, args)" % name
@@ -394,7 +419,7 @@ def full_slots(data):
 # ---- enums
 
 def spec_name(enum):
-    return enum["name"][0].lower() + enum["name"][1:]
+    return snake(enum["name"]).lower()
 
 
 def variant(enum, name):
@@ -408,43 +433,42 @@ def enum_uses(data, form):
 def valued(enum):
     """The values in the order of their codes, in one line where they fit."""
     values = [variant(enum, name) for _, name in sorted(enum["codes"])] + ["[]"]
-    one_line = "valuesOf %s = %s" % (spec_name(enum), " ∷ ".join(values))
+    one_line = "values_of %s = %s" % (spec_name(enum), " ∷ ".join(values))
     if len(one_line) <= LINE:
         return [one_line]
-    return ["valuesOf %s =" % spec_name(enum)] + filled(values[:1] + ["∷ " + value for value in values[1:]])
+    return ["values_of %s =" % spec_name(enum)] + filled(values[:1] + ["∷ " + value for value in values[1:]])
 
 
 def enums_specs(data):
     names = [spec_name(e) for e in data["enums"]]
-    crates = {"cmd_" + name: [spec_name(e) + "Code" for e in data["enums"] if e["file"] == "cmd_" + name] for name, _, _ in files(data)}
+    crates = {"cmd_" + name: [spec_name(e) + "_code" for e in data["enums"] if e["file"] == "cmd_" + name] for name, _, _ in files(data)}
     out = ["-- %s: the enums of the port, their values and codes. proofs/Listed.antt" % MADE_BY,
            "-- shows that no value is missing (REFERENCE, \"Commands\"). Assumes nothing.",
-           "use Prim.Native.Nat.{ℕ}", "use mathlib.Core.Bool.{Bool, true, false}", "use mathlib.Core.List.{List, [], _∷_}",
-           "use Rattle·table.specs.Table.{yesNo}"]
-    out += ["use Rattle·%s.specs.Codes.{%s}" % (crate, ", ".join(codes[i:i + 5])) for crate, codes in crates.items() for i in range(0, len(codes), 5)]
-    out += enum_uses(data, "use Rattle·{file}.specs.declared.{name}.{{{name}}}")
-    out += enum_uses(data, "use Rattle·{file}.specs.declared.{name}.the-variants as {name}V")
-    out += ["", "-- the enums, and the yes or no", "pub data Enum : Type 0 where", "  yesOrNo : Enum"] + ["  %s : Enum" % name for name in names]
-    out += ["", "abbrev pub Value : Enum → Type 0", "Value yesOrNo = Bool"] + ["Value %s = %s" % (spec_name(e), e["name"]) for e in data["enums"]]
-    out += ["", "-- the code of a value: its number in the frame", "abbrev pub codeOf : (e : Enum) → Value e → ℕ", "codeOf yesOrNo b = yesNo b"]
-    out += ["codeOf %s x = %sCode x" % (name, name) for name in names]
-    out += ["", "-- the values of each, in the order of their codes", "abbrev pub valuesOf : (e : Enum) → List (Value e)",
-            "valuesOf yesOrNo = false ∷ true ∷ []"]
+           "use Rattle.std.specs.Prelude.{ℕ, Bool, true, false, List, [], ◌∷◌}", "use Rattle.table.specs.Table.{yes_no}"]
+    out += ["use Rattle.%s.specs.Codes.{%s}" % (crate, ", ".join(codes[i:i + 5])) for crate, codes in crates.items() for i in range(0, len(codes), 5)]
+    out += enum_uses(data, "use Rattle.{file}.specs.declared.{name}.{{{name}}}")
+    out += enum_uses(data, "use Rattle.{file}.specs.declared.{name}.TheVariants as {name}V")
+    out += ["", "-- the enums, and the yes or no", "pub data Enum : Type 0 where", "  yes_or_no : Enum"] + ["  %s : Enum" % name for name in names]
+    out += ["", "abbrev pub Value : Enum → Type 0", "Value yes_or_no = Bool"] + ["Value %s = %s" % (spec_name(e), e["name"]) for e in data["enums"]]
+    out += ["", "-- the code of a value: its number in the frame", "abbrev pub code_of : (e : Enum) → Value e → ℕ", "code_of yes_or_no b = yes_no b"]
+    out += ["code_of %s x = %s_code x" % (name, name) for name in names]
+    out += ["", "-- the values of each, in the order of their codes", "abbrev pub values_of : (e : Enum) → List (Value e)",
+            "values_of yes_or_no = false ∷ true ∷ []"]
     return out + [line for e in data["enums"] for line in valued(e)]
 
 
 def enums_listed(data):
     out = ["-- %s: no value is missing from the list of its enum, since the code of every" % MADE_BY,
            "-- value is among the codes. Assumes nothing.",
-           "use mathlib.Core.Bool.{true, false}", "use lib.Dec.{T}", "use Rattle·table.specs.Codes.{isIn}",
-           "use Rattle·enums·specs.specs.Enums.{Enum, Value, codeOf}", "use Rattle·enums·specs.specs.Enums as of",
-           "use Rattle·enums·specs.specs.Values.{codesIn}"]
-    out += enum_uses(data, "use Rattle·{file}.specs.declared.{name}.the-variants as {name}V")
-    out += ["", "pub listed : (e : Enum) (x : Value e) → T (isIn (codeOf e x) (codesIn e))", "unfolding isIn",
-            "listed of.yesOrNo x = elim x as (λ y. T (isIn (codeOf of.yesOrNo y) (codesIn of.yesOrNo))) [ true ↦ tt | false ↦ tt ]"]
+           "use mathlib.Core.Bool.{true, false}", "use lib.Dec.{T}", "use Rattle.table.specs.Codes.{is_in}",
+           "use Rattle.enums.specs.Enums.{Enum, Value, code_of}", "use Rattle.enums.specs.Enums as of",
+           "use Rattle.enums.specs.Values.{codes_in}"]
+    out += enum_uses(data, "use Rattle.{file}.specs.declared.{name}.TheVariants as {name}V")
+    out += ["", "pub listed : (e : Enum) (x : Value e) → T (is_in (code_of e x) (codes_in e))", "unfolding is_in",
+            "listed of.yes_or_no x = elim x as (λ y. T (is_in (code_of of.yes_or_no y) (codes_in of.yes_or_no))) [ true ↦ tt | false ↦ tt ]"]
     for e in data["enums"]:
         name = "of." + spec_name(e)
-        out.append("listed %s x = elim x as (λ y. T (isIn (codeOf %s y) (codesIn %s))) [" % (name, name, name))
+        out.append("listed %s x = elim x as (λ y. T (is_in (code_of %s y) (codes_in %s))) [" % (name, name, name))
         out += ["  | %s ↦ tt" % variant(e, value) for _, value in e["codes"]] + ["]"]
     return out
 
@@ -453,7 +477,7 @@ def enum_sorts(data):
     def sort(a):
         if a["takes"] == "number":
             return "number"
-        return "code of." + ("yesOrNo" if a["takes"] == "yes or no" else spec_name(enum_of(data, a)))
+        return "code of." + ("yes_or_no" if a["takes"] == "yes or no" else spec_name(enum_of(data, a)))
 
     out = []
     for k in data["kinds"]:
@@ -498,7 +522,7 @@ def vectors_builders(data, name, at, kinds):
     uses |= {"crate::request::" + reader_of(data, a) for a in asked if not is_code(data, a)}
     span = "%d to %d" % (at + 1, at + len(kinds))
     out = ["// %s: the builders of cmd_%s, kinds %s." % (MADE_BY, name, span)]
-    out += ["use %s;" % use for use in sorted(uses, key=lambda use: (not use.startswith("crate"), use))]
+    out += imports(uses)
     out += ["", "// The answer for a kind from %s; empty for any other." % span, "pub fn built(kind: u8, p: &[u8]) -> Answer {", "    match kind {"]
     out += arms([(k["kind"], "kind_%d(%s)" % (k["kind"], "p" if k["arguments"] else "")) for k in kinds] + [("_", "Answer::new()")]) + ["    }", "}", ""]
     for k in kinds:
