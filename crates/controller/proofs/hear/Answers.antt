@@ -1,0 +1,26 @@
+-- `hear` meets its contract. Assumes nothing.
+use mathlib.Core.Path.{ap, sym, ◌∙◌}
+use Rattle.book.proofs.Told.{Replayed, replay-refused, replay-told}
+use Rattle.status.specs.declared.Status.{Status}
+use Rattle.status.specs.Words.{cmd_in}
+use Rattle.contents.specs.Contents.{Contents}
+use Rattle.controller.specs.Controller.{goes_on, heard_of, is_good}
+use Rattle.controller.proofs.Steps.{hear-told, long}
+use Rattle.controller.proofs.hear.Goals as goal
+
+pub slice_bounds-heard-end : goal.slice_bounds-heard-end
+slice_bounds-heard-end c =
+    let told : Replayed c.args.book.now c.replay-told.new.out c.in-Done.n = replay-told _ _ long _ _ _ c.replay-told.ensures.0 c.replay-told.ensures.1 c.in-Done.is in
+    told.fits
+
+pub returns-in-Done : goal.returns-in-Done
+returns-in-Done c =
+    let told : Replayed c.args.book.now c.replay-told.new.out c.in-Done.n = replay-told _ _ long _ _ _ c.replay-told.ensures.0 c.replay-told.ensures.1 c.in-Done.is in
+    hear-told _ _ _ told _ _ _ _ c.heard.ensures
+    (c.goes_on-good.ensures ∙ ap goes_on (c.cmd.ensures ∙ ap (λ (s : Status). cmd_in s.0) c.from_slice.ensures))
+
+pub returns-in-Refused : goal.returns-in-Refused
+returns-in-Refused c =
+    let a = c.args in
+    sym (ap (λ (q : Contents). heard_of q a.state (is_good a.status.now))
+    (replay-refused _ _ long _ _ c.replay-told.ensures.0 c.in-Refused.is))

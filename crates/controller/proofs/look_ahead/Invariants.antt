@@ -1,0 +1,11 @@
+-- `look_ahead` meets its contract: the loop's invariant is `Seeking`. Assumes nothing.
+use Prim.Native.Nat.{◌-◌}
+use lib.ListN.{length}
+use Rattle.controller.proofs.Walking.{Seeking}
+use Rattle.controller.proofs.look_ahead.Given as goal
+
+abbrev pub invariant-loop-cursor : goal.invariant-loop-cursor
+invariant-loop-cursor l = Seeking l.reel l.sent l.cursor.at l.left
+
+abbrev pub decreases-loop-cursor : goal.decreases-loop-cursor
+decreases-loop-cursor l = length l.reel - l.cursor.at
