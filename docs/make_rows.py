@@ -77,14 +77,12 @@ def filled(words, indent="    ", limit=LINE):
     return lines
 
 
-def wrapped(line):
-    """A line of a proof in lines of at most 160 columns; what stands in brackets behind `c` stays whole."""
-    return filled(re.findall(r"\(c(?: \.[\w-]+)*\)+|\S+", line))
-
-
-def keys(count):
-    """What a proof says of the arms of a match on single numbers."""
-    return filled(["(λ c. is (c .match .keys%d))" % n for n in range(1, count + 1)])
+def answers(unfolded, numbers):
+    """What a proof says of the arms of a match on single numbers; an empty line stands before what follows."""
+    out = []
+    for n in numbers:
+        out += ["", "pub returns-in-%d : goal.returns-in-%d" % (n, n), "unfolding " + unfolded, "returns-in-%d c = is c.in-%d.is" % (n, n)]
+    return out[1:] + [""]
 
 
 def listed(items):
@@ -185,9 +183,9 @@ def head_at(data):
     return at_places(data, lambda k: "kinds::HEAD_%d" % k["kind"])
 
 
-def place_keys(data):
+def place_answers(unfolded):
     """The last row has no number of its own: its arm is for all places from there on."""
-    return keys(len(data["kinds"]) - 1)
+    return lambda data: answers(unfolded, range(len(data["kinds"]) - 1))
 
 
 # ---- codes
@@ -231,8 +229,8 @@ def seat_of(data):
     return arms([("0x" + k["opcode"], "kinds::HEAD_%d" % k["kind"]) for k in seats(data)])
 
 
-def seat_keys(data):
-    return keys(len(seats(data)))
+def seat_answers(data):
+    return answers("seat_from", [int(k["opcode"], 16) for k in seats(data)])
 
 
 def masks(k):
@@ -294,51 +292,48 @@ def decoder_rows(data):
     return out + [line for file in files(data) for line in [""] + reader(*file)]
 
 
-def before(count):
-    return "c" + " .before" * count
-
-
-def nth(word, n):
-    return word if n == 1 else "%s%d" % (word, n)
-
-
 class Arm:
     """What the proof of a reader says of one of its rows: what the calls of its arm ask (`asks`) and what the last of them gives (`gives`)."""
 
     def __init__(self, kinds, index):
-        self.kind, self.index = kinds[index], index
-        self.is_last, self.is_long = index == len(kinds) - 1, self.kind["length"] > WORD
-        self.whole = whole(self.kind)
-        self.firsts = sum(k["length"] > WORD for k in kinds[:index + 1])
-        self.wholes = sum(whole(k) is not None for k in kinds[:index + 1])
-        # calls between the match and the last
-        self.between = self.is_long + 2 * (self.whole is not None)
+        self.kinds, self.index, self.kind = kinds, index, kinds[index]
+        self.is_last, self.is_long, self.whole = index == len(kinds) - 1, self.kind["length"] > WORD, whole(self.kind)
+        self.place = "in_default" if self.is_last else "in-%d" % (self.kind["kind"] - 1)
 
-    def row(self, back):
-        was = "(%s .match .keys%d)" % (before(back), self.index + 1)
-        if self.is_last:
-            was = "(end (%s) (%s .match .rest))" % (before(back + 2), before(back))
-        return "(row (%s) %d %d %s refl)" % (before(back + 2), self.kind["kind"] - 1, self.kind["length"], was)
+    def said(self, name, what=""):
+        """The name of a call, or of what it asks, which ends with the arm's place but in the first arm that has such a call."""
+        calls = {"first_of": lambda k: k["length"] > WORD, "get": lambda k: whole(k) is not None, "narrow_field": lambda k: whole(k) is not None}
+        is_first = not any(map(calls.get(name, lambda k: True), self.kinds[:self.index]))
+        return name + what + ("" if is_first else "-" + self.place)
 
-    def words(self, back):
-        first = "(%s .%s .ensures)" % (before(back + self.between), nth("first-of", self.firsts)) if self.is_long else "refl"
-        return "_ refl _ _ %s (%s .%s .ensures)" % (first, before(back + self.between - self.is_long), nth("last-of", self.index + 1))
+    def gave(self, name):
+        return "c.%s.ensures" % self.said(name)
+
+    def row(self):
+        was = "(end c.requires.0 c.requires.1 c.in_default.in_default-own.rest)" if self.is_last else "c.%s.is" % self.place
+        return "(row %d %d c.requires %s refl)" % (self.kind["kind"] - 1, self.kind["length"], was)
+
+    def words(self):
+        return "_ refl _ _ %s %s" % (self.gave("first_of") if self.is_long else "refl", self.gave("last_of"))
+
+    def answer(self, name, text):
+        lines = ["pub %s : goal.%s" % (name, name), "unfolding row_at first_word only_wide narrow_of sound"]
+        one_line = "%s c = %s" % (name, text)
+        return lines + ([one_line] if len(one_line) <= LINE else ["%s c =" % name] + filled(text.split(" "))) + [""]
 
     def asks(self):
-        out = [wrapped("(λ c κs. fits %s)" % self.row(back)) for back in range(1 + self.is_long)]
+        out = []
+        for name in ["first_of"] * self.is_long + ["last_of"]:
+            out += self.answer(self.said(name, "-requires"), "fits %s" % self.row())
         held = "0 0 (nothing _)"
         if self.whole is not None:
-            cell_at = "(getD (rowAt %d) %d 0)" % (self.kind["kind"] - 1, FIRST_FIELD + self.whole)
-            held = "_ %s (got %s _ _ (c .before .before .%s .ensures) tt _ (c .before .%s .ensures))" % (
-                cell_at, cell_at, nth("narrow-field", self.wholes), nth("get", self.wholes))
-            out.append(["    (search needs) (search needs)"])
-        out += [wrapped("(λ c κs. asks %s" % self.row(2 + self.between)), wrapped("%s %s tt)" % (self.words(1), held))]
-        return [line for lines in out for line in lines]
+            cell_at = "(get_or (row_at %d) %d 0)" % (self.kind["kind"] - 1, FIRST_FIELD + self.whole)
+            held = "_ %s (got %s _ _ %s tt _ %s)" % (cell_at, cell_at, self.gave("narrow_field"), self.gave("get"))
+        return out + self.answer(self.said("read_fields", "-requires"), "asks %s %s %s tt" % (self.row(), self.words(), held))
 
     def gives(self):
-        given = nth("read-fields", self.index + 1)
-        return wrapped("(λ c. gives %s" % self.row(3 + self.between)) + wrapped(
-            "%s _ _ (c .%s .ensures .0) (c .%s .ensures .1))" % (self.words(2), given, given))
+        given = self.gave("read_fields")
+        return self.answer("returns-" + self.place, "gives %s %s _ _ %s.0 %s.1" % (self.row(), self.words(), given, given))
 
 
 def reader_proof(name, at, kinds):
@@ -346,38 +341,21 @@ def reader_proof(name, at, kinds):
     has_whole = any(whole(k) is not None for k in kinds)
     out = ["-- %s: the arms of cmd_%s's rows. What an arm asks and gives is one law each" % (MADE_BY, name),
            "-- (proofs/Arms.antt); its place, length and fields are its row's by `refl`. Assumes nothing.",
-           "use mathlib.Core.Path.{_≡_, refl}", "use Prim.Native.Nat.{ℕ}", "use native.Mathlib.Omega.{arith}"]
-    out += ["use borrow.Author.Needs.{needs}", "use lib.ListN.{getD}"] * has_whole
-    out += ["use Rattle·frame.specs.Field.{sound}", "use Rattle·table.specs.Number.{narrowOf}", "use Rattle·table.specs.Table.{rowAt, lenOf}",
-            "use Rattle·table.proofs.Past.{Past, past}", "use Rattle·decoder·specs.specs.Words.{firstWord}",
-            "use Rattle·decoder·proofs.proofs.Arms.{Arm, fits, asks, gives, %snothing, onlyWide}" % ("got, " if has_whole else ""),
-            "use Rattle·decoder·proofs.proofs.rows.read_%s.Statement.{statement}" % name,
-            "use Rattle·decoder·proofs.proofs.rows.read_%s.Tie as tie" % name, "",
-            "-- the arm of the row at k, which has n bytes",
-            "row : (s : tie.Start) (k n : ℕ) → s .args .i ≡ k → lenOf (rowAt k) ≡ n → Arm (s .args .i) k n (s .args .frame .now)",
-            "row s k n e en = record { this = e; of-table = omega (arith, s .pre .1); long = s .pre .2; length-is = en }", "",
-            "-- what is matched last is the last place",
-            "end : (s : tie.Start) → Past %d %d (s .args .i) → s .args .i ≡ %d" % (at, end, at + end),
-            "end s h = omega (arith, past %d %d (s .args .i) (s .pre .0) h, s .pre .1)" % (at, end), "",
-            "pub read-%s-spec : {M : Type 1} → statement M" % name, "unfolding rowAt firstWord onlyWide narrowOf sound", "read-%s-spec =" % name,
-            "    tie.close", "    (tie.spec"]
+           "use mathlib.Core.Path.{◌≡◌, refl}", "use mathlib.Core.List.{List}", "use Prim.Native.Nat.{ℕ, ◌<◌, ◌≤◌}", "use native.Mathlib.Omega.{arith}",
+           "use lib.ListN.{%slength}" % ("get_or, " if has_whole else ""),
+           "use Rattle.frame.specs.Field.{sound}", "use Rattle.table.specs.Number.{narrow_of}", "use Rattle.table.specs.Table.{row_at, len_of}",
+           "use Rattle.table.proofs.Past.{Past, past}", "use Rattle.decoder.specs.Words.{first_word}",
+           "use Rattle.decoder.proofs.Arms.{Arm, fits, asks, gives, %snothing, only_wide}" % ("got, " if has_whole else ""),
+           "use Rattle.decoder.proofs.rows.read_%s.Goals as goal" % name, "",
+           "-- the arm of the row at k, which has n bytes",
+           "row : {i : ℕ} {s : List ℕ} (k n : ℕ) → (%d ≤ i) × (i < %d) × (len_of (row_at i) ≡ length s) → i ≡ k → len_of (row_at k) ≡ n → Arm i k n s" % (
+               at, at + end + 1),
+           "row k n r e en = record { this = e; of-table = omega (arith, r.1); long = r.2; length-is = en }", "",
+           "-- what is matched last is the last place",
+           "end : {i : ℕ} → %d ≤ i → i < %d → Past %d %d i → i ≡ %d" % (at, at + end + 1, at, end, at + end),
+           "end low high p = omega (arith, past %d %d _ low p, high)" % (at, end), ""]
     told = [Arm(kinds, i) for i in range(len(kinds))]
-    said = [line for arm in told for line in arm.asks()] + [line for arm in told for line in arm.gives()]
-    return out + said[:-1] + [said[-1] + ")"]
-
-
-def read_row_proof(data):
-    held, asks = files(data), []
-    for j, (name, _, _) in enumerate(held):
-        last = j == len(held) - 1
-        start = before(3 + j - last)
-        low = "zero-le" if j == 0 else "%s .if%d .left" % (before(2 - last), j)
-        high = "c .before .if%d .taken" % (j + 1) if not last else "%s .pre .0" % start
-        asks += ["(λ c κs. (%s, %s, %s .pre .1))" % (low, high, start), "(λ c. c .read-%s .ensures)" % name]
-    return ["-- %s: each file's reader has its rows. Assumes nothing." % MADE_BY, "use Prim.Native.Nat.{zero-le}",
-            "use Rattle·decoder·proofs.proofs.rows.read_row.Statement.{statement}", "use Rattle·decoder·proofs.proofs.rows.read_row.Tie as tie", "",
-            "pub read-row-spec : {M : Type 1} → statement M", "read-row-spec =", "    tie.close", "    (tie.spec"] + [
-            "    %s%s" % (line, ")" if i == len(asks) - 1 else "") for i, line in enumerate(asks)]
+    return (out + [line for arm in told for line in arm.asks()] + [line for arm in told for line in arm.gives()])[:-1]
 
 
 # ---- settings and book
@@ -386,8 +364,8 @@ def head_of(data):
     return arms([(k["slot"], "kinds::HEAD_%d" % k["kind"]) for k in settings(data)])
 
 
-def slot_keys(data):
-    return keys(len(settings(data)))
+def slot_answers(data):
+    return answers("size_of lengths", [k["slot"] for k in settings(data)])
 
 
 def settings_actions(data):
@@ -547,18 +525,18 @@ def made(data):
         "crates/table/src/lib.rt": {"counts": table_counts, "row_at": row_at, "head_at": head_at},
         "crates/table/src/kinds.rt": {None: table_rows},
         "crates/table/src/fields.rt": {None: table_fields},
-        "crates/table/proofs/row_at/Proof.antt": {"arms": place_keys},
-        "crates/table/proofs/head_at/Proof.antt": {"arms": place_keys},
+        "crates/table/proofs/row_at/Answers.antt": {"arms": place_answers("row_at")},
+        "crates/table/proofs/head_at/Answers.antt": {"arms": place_answers("head_at")},
         "crates/codes/src/lib.rt": {"lists": codes_lists},
         "crates/codes/proofs/Listed.antt": {"words": codes_words},
         "crates/decoder/src/seats.rt": {"seat_of": seat_of},
-        "crates/decoder/proofs/seats/seat_of/Proof.antt": {"arms": seat_keys},
+        "crates/decoder/proofs/seats/seat_of/Answers.antt": {"arms": seat_answers},
         "crates/decoder/src/lib.rt": {"held_at": held_at},
-        "crates/decoder/proofs/held_at/Proof.antt": {"arms": place_keys},
+        "crates/decoder/proofs/held_at/Answers.antt": {
+            "arms": place_answers("held_of row_at first_word last_word big_end mask_of mask narrows_of narrow_of")},
         "crates/decoder/src/rows.rt": {None: decoder_rows},
-        "crates/decoder/proofs/rows/read_row/Proof.antt": {None: read_row_proof},
         "crates/settings/src/lib.rt": {"head_of": head_of},
-        "crates/settings/proofs/head_of/Proof.antt": {"arms": slot_keys},
+        "crates/settings/proofs/head_of/Answers.antt": {"arms": slot_answers},
         "crates/settings/proofs/Settings.antt": {"actions": settings_actions},
         "crates/book/proofs/Full.antt": {"front": full_front, "last": full_last, "slots": full_slots},
         "crates/enums/specs/Enums.antt": {None: enums_specs},
@@ -568,5 +546,5 @@ def made(data):
     }
     for name, at, kinds in files(data):
         held["crates/vectors/src/%s.rt" % name] = {None: lambda _, file=(name, at, kinds): vectors_builders(data, *file)}
-        held["crates/decoder/proofs/rows/read_%s/Proof.antt" % name] = {None: lambda _, file=(name, at, kinds): reader_proof(*file)}
+        held["crates/decoder/proofs/rows/read_%s/Answers.antt" % name] = {None: lambda _, file=(name, at, kinds): reader_proof(*file)}
     return held

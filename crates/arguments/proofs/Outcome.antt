@@ -12,3 +12,6 @@ count-once κs a h o u p q i = (same p q i, o.1)
 
 place-once : Once contracts.Inputs.place.ended arguments.Inputs.place.Reads.Pre arguments.Inputs.place.Reads.Learnt
 place-once κs a h o u p q i = (same p q i, o.1)
+
+same-bytes-once : Once contracts.same_bytes.ended arguments.same_bytes.Reads.Pre arguments.same_bytes.Reads.Learnt
+same-bytes-once κs a h o u p q i = (same p q i, o.1)

@@ -3,11 +3,11 @@
 #![tactic(auto)]
 
 ghost use Rattle.std.specs.Prelude.{◌≡◌, ◌<◌, get_or, length};
-ghost use Rattle.arguments.specs.Words.{word_of};
+ghost use Rattle.arguments.specs.Words.{same_bytes, word_of};
 ghost use Rattle.arguments.specs.Places.{names_of, place_at, places_of};
 
 // What an argument is before `--`, behind which each is a name.
-#[derive(Drop)]
+#[derive(Clone, Copy)]
 pub enum Word {
     Name,
     Mark,
@@ -16,19 +16,27 @@ pub enum Word {
     Unknown,
 }
 
+// Whether both have the same bytes in the same order.
+pub fn same_bytes(a: &[u8], b: &[u8]) -> bool
+    ensures { result ≡ same_bytes a.now b.now }
+{
+    a == b
+}
+
+#[tactic(auto, unfolding(crate::specs::Words::word_of, crate::specs::Words::is_option))]
 pub fn word_of(arg: &[u8]) -> Word
     ensures { result ≡ word_of arg.now }
 {
-    if check::same(arg, b"--") {
+    if same_bytes(arg, b"--") {
         return Word::Mark;
     }
-    if check::same(arg, b"-h") {
+    if same_bytes(arg, b"-h") {
         return Word::Help;
     }
-    if check::same(arg, b"--help") {
+    if same_bytes(arg, b"--help") {
         return Word::Help;
     }
-    if check::same(arg, b"--version") {
+    if same_bytes(arg, b"--version") {
         return Word::Version;
     }
     if 1 < arg.len() {
@@ -40,14 +48,14 @@ pub fn word_of(arg: &[u8]) -> Word
 }
 
 // What a program is given behind its name: so many arguments, of which `mark` is the first that is `--`; 0 if none is.
-#[derive(Drop)]
+#[derive(Clone, Copy)]
 pub struct Inputs {
     pub given: usize,
     pub mark: usize,
 }
 
 // Where an input is: the argument that names it, or standard input where there is no name; nowhere if there is no such input.
-#[derive(Drop)]
+#[derive(Clone, Copy)]
 pub enum Place {
     Argument(usize),
     StandardInput,

@@ -5,9 +5,11 @@
 ghost use Rattle.front.specs.Buffers.{Opening};
 ghost use Rattle.std.specs.Prelude.{◌≤◌, length};
 
-use arguments::{Inputs, Place};
+use arguments::{Inputs, Place, same_bytes};
 use control_text::{Halt, LONGEST};
-use front::{Asked, Input};
+use front::{Asked, Input, Streams};
+use std::fs::File;
+use std::rt::{Env, Files};
 use texts::put_text;
 
 // What a message begins with.
@@ -25,39 +27,48 @@ const MESSAGE: usize = 101;
 // ---- the call
 
 // Whether a book is named, and one list at the most. What is wrong is said.
-fn is_right(inputs: Inputs) -> bool {
+fn is_right(streams: Streams, inputs: Inputs) -> bool {
     let place = inputs.place(0);
     let Place::Argument(_) = place else {
-        front::wrong_call(&NAME, b"no book is named");
+        front::wrong_call(streams, &NAME, b"no book is named");
         return false;
     };
     if 2 < inputs.count() {
-        front::wrong_call(&NAME, b"one book and one list of statuses at a time");
+        front::wrong_call(
+            streams,
+            &NAME,
+            b"one book and one list of statuses at a time",
+        );
         return false;
     }
     true
 }
 
 // The list is the second name, or standard input where there is none.
-fn open_list(inputs: Inputs, arg: &mut [u8]) -> Input
+fn open_list<R: Env + Files<File = File>>(
+    rt: &R,
+    streams: Streams,
+    inputs: Inputs,
+    arg: &mut [u8],
+) -> Input
     ensures { Opening arg.old arg.new result }
 {
     if inputs.count() < 2 {
-        return front::open(&NAME, Inputs { given: 0, mark: 0 }, 0, arg);
+        return front::open(rt, streams, &NAME, Inputs { given: 0, mark: 0 }, 0, arg);
     }
-    front::open(&NAME, inputs, 1, arg)
+    front::open(rt, streams, &NAME, inputs, 1, arg)
 }
 
 // ---- what is said
 
-fn wrong_word(name: &[u8], text: &[u8], start: usize, end: usize)
+fn wrong_word(streams: Streams, name: &[u8], text: &[u8], start: usize, end: usize)
     requires { (start ≤ end) × (end ≤ length text.now) }
 {
     let mut what = [0u8; MESSAGE];
     let to = put_text(&mut what, 0, b"not four hex digits: ");
     let n = put_text(&mut what, to, &text[start..end]);
     let line = status_list::line_of(text, start);
-    front::wrong_line(&NAME, name, line, &what[0..n]);
+    front::wrong_line(streams, &NAME, name, line, &what[0..n]);
 }
 
 // Whether a part of a list has too few words for the run.
@@ -72,27 +83,32 @@ fn is_short(halt: Halt, whole: bool) -> bool {
 }
 
 // Plays the book against a text: the whole list, or the words of the part of a longer one that is read.
-fn play(name: &[u8], book: &[u8], text: &[u8], whole: bool) {
+fn play(streams: Streams, name: &[u8], book: &[u8], text: &[u8], whole: bool) {
     let mut out = [0u8; LONGEST];
     let played = control_text::play(book, text, &mut out);
     let steps = played.steps;
     let len = played.len;
     let halt = played.halt;
     if is_short(halt, whole) {
-        if front::say(&NAME, &out[0..steps]) {
-            front::wrong_input(&NAME, name, b"the first 65536 bytes do not end the run");
+        if front::say(streams, &NAME, &out[0..steps]) {
+            front::wrong_input(
+                streams,
+                &NAME,
+                name,
+                b"the first 65536 bytes do not end the run",
+            );
         }
         return;
     }
-    if front::say(&NAME, &out[0..len]) {
+    if front::say(streams, &NAME, &out[0..len]) {
         if let Halt::Wrong { start, end } = halt {
-            wrong_word(name, text, start, end);
+            wrong_word(streams, name, text, start, end);
         }
     }
 }
 
 // Plays the book against no status at all, and tells whether it waits for one. What is refused, or done at once, is said, and needs none.
-fn is_waiting(book: &[u8]) -> bool {
+fn is_waiting(streams: Streams, book: &[u8]) -> bool {
     let mut out = [0u8; LONGEST];
     let played = control_text::play(book, b"", &mut out);
     let len = played.len;
@@ -100,7 +116,7 @@ fn is_waiting(book: &[u8]) -> bool {
     if let Halt::Waiting = halt {
         return true;
     }
-    front::say(&NAME, &out[0..len]);
+    front::say(streams, &NAME, &out[0..len]);
     false
 }
 
@@ -121,52 +137,77 @@ fn whole_words(s: &[u8]) -> usize
 }
 
 // Reads the list and plays the book against it.
-fn answer_list(book: &[u8], list: Input, name: &[u8]) {
+fn answer_list(streams: Streams, book: &[u8], list: Input, name: &[u8]) {
     let mut s = [0u8; TEXT + 1];
-    let read = front::read_opened(&NAME, list, name, &mut s);
+    let read = front::read_opened(streams, &NAME, list, name, &mut s);
     if !read.found {
         return;
     }
     let m = read.have;
     if m <= TEXT {
-        play(name, book, &s[0..m], true);
+        play(streams, name, book, &s[0..m], true);
         return;
     }
     let n = whole_words(&s);
-    play(name, book, &s[0..n], false);
+    play(streams, name, book, &s[0..n], false);
 }
 
 // Reads the book, and the list where it is waited for. Neither is read before both are open.
-fn answer(book: Input, book_name: &[u8], list: Input, name: &[u8]) {
+fn answer(streams: Streams, book: Input, book_name: &[u8], list: Input, name: &[u8]) {
     let mut b = [0u8; BOOK];
-    let read = front::read_opened(&NAME, book, book_name, &mut b);
+    let read = front::read_opened(streams, &NAME, book, book_name, &mut b);
     if !read.found {
         return;
     }
     let n = read.have;
-    if is_waiting(&b[0..n]) {
-        answer_list(&b[0..n], list, name);
+    if is_waiting(streams, &b[0..n]) {
+        answer_list(streams, &b[0..n], list, name);
     }
 }
 
-// Answers, unless both are standard input. Where there is none, the list may have got its descriptor: then it is given back, and the book's read fails.
-fn answer_named(book: Input, book_name: &[u8], list: Input, name: &[u8]) {
-    if check::same(book_name, b"-") {
-        if check::same(name, b"-") {
-            front::wrong_call(&NAME, b"book and statuses cannot both be standard input");
+// The list, beside a book on standard input. Where there is none, the list may have got its descriptor: then it is given back, and the book's read fails.
+fn list_beside(book: &Input, list: Input) -> Input {
+    if list.fd == book.fd {
+        front::close(list);
+        return Input {
+            found: false,
+            fd: -1,
+            name: 0,
+            file: None,
+        };
+    }
+    list
+}
+
+// Answers, unless both are standard input.
+fn answer_named(streams: Streams, book: Input, book_name: &[u8], list: Input, name: &[u8]) {
+    if same_bytes(book_name, b"-") {
+        if same_bytes(name, b"-") {
+            front::wrong_call(
+                streams,
+                &NAME,
+                b"book and statuses cannot both be standard input",
+            );
             return;
         }
-        if list.fd == book.fd {
-            front::close(list, name);
-        }
+        let own = list_beside(&book, list);
+        answer(streams, book, book_name, own, name);
+        return;
     }
-    answer(book, book_name, list, name);
+    answer(streams, book, book_name, list, name);
 }
 
-fn main() {
-    let mut arg = io::buffer();
-    let mut other = io::buffer();
+fn main(rt: HostRuntime) {
+    let streams = Streams {
+        input: rt.stdin(),
+        output: rt.stdout(),
+        errors: rt.stderr(),
+    };
+    let mut arg = [0u8; 4096];
+    let mut other = [0u8; 4096];
     let asked = front::begin(
+        &rt,
+        streams,
         &NAME,
         b"usage: control [--] BOOK [STATUSES]\n\
 Plays a book through the controller, which sends its frames one at each step, against the statuses that came back. The book's bytes are read from\n\
@@ -187,11 +228,11 @@ the run breaks off without a last line, and so it does where the first 65536 byt
     let Asked::Work(inputs) = asked else {
         return;
     };
-    if !is_right(inputs) {
+    if !is_right(streams, inputs) {
         return;
     }
-    let book = front::open(&NAME, inputs, 0, &mut arg);
-    let list = open_list(inputs, &mut other);
+    let book = front::open(&rt, streams, &NAME, inputs, 0, &mut arg);
+    let list = open_list(&rt, streams, inputs, &mut other);
     if !book.found {
         return;
     }
@@ -200,5 +241,5 @@ the run breaks off without a last line, and so it does where the first 65536 byt
     }
     let n = book.name;
     let m = list.name;
-    answer_named(book, &arg[0..n], list, &other[0..m]);
+    answer_named(streams, book, &arg[0..n], list, &other[0..m]);
 }

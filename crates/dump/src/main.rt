@@ -3,19 +3,21 @@
 #![tactic(auto)]
 
 use arguments::Inputs;
-use front::{Asked, Input};
+use front::{Asked, Input, Streams};
+use std::fs::File;
+use std::rt::{Env, Files};
 
 // What a message begins with.
 const NAME: [u8; 4] = *b"dump";
 
 // Writes to standard output, and tells whether it takes more.
-fn say(text: &[u8]) -> bool {
-    front::say(&NAME, text)
+fn say(streams: Streams, text: &[u8]) -> bool {
+    front::say(streams, &NAME, text)
 }
 
 // Dumps an input, and tells whether standard output takes more. Where a read fails, that is said and no line follows.
 // Nothing says that the input ends, so the turns are counted down from a number that no run uses up.
-fn run(input: Input, name: &[u8], s: &mut [u8], out: &mut [u8]) -> bool {
+fn run(streams: Streams, input: &Input, name: &[u8], s: &mut [u8], out: &mut [u8]) -> bool {
     let mut from: usize = 0;
     let mut have: usize = 0;
     let mut index: u64 = 0;
@@ -25,7 +27,7 @@ fn run(input: Input, name: &[u8], s: &mut [u8], out: &mut [u8]) -> bool {
         turns -= 1;
         let p = dump_text::pass(index, &s[from..have], more, out);
         let written = p.written;
-        if !say(&out[0..written]) {
+        if !say(streams, &out[0..written]) {
             return false;
         }
         index = p.next;
@@ -34,9 +36,9 @@ fn run(input: Input, name: &[u8], s: &mut [u8], out: &mut [u8]) -> bool {
             if !more {
                 return true;
             }
-            let f = front::refill(input, s, from, have);
-            if f.failed {
-                front::cannot_read(&NAME, name);
+            let f = front::refill(streams, input, s, from, have);
+            if let Some(why) = f.why {
+                front::cannot_read(streams, &NAME, name, why);
                 return true;
             }
             from = 0;
@@ -48,32 +50,54 @@ fn run(input: Input, name: &[u8], s: &mut [u8], out: &mut [u8]) -> bool {
 }
 
 // A reel, behind a heading where there are several.
-fn one(input: Input, name: &[u8], headed: bool, s: &mut [u8], out: &mut [u8]) -> bool {
+fn one(
+    streams: Streams,
+    input: &Input,
+    name: &[u8],
+    headed: bool,
+    s: &mut [u8],
+    out: &mut [u8],
+) -> bool {
     if headed {
-        if !front::heading(&NAME, name) {
+        if !front::heading(streams, &NAME, name) {
             return false;
         }
     }
-    run(input, name, s, out)
+    run(streams, input, name, s, out)
 }
 
 // Dumps input i, if it can be opened, and tells whether standard output takes more.
-fn dump(inputs: Inputs, i: usize, arg: &mut [u8], s: &mut [u8], out: &mut [u8]) -> bool {
-    let input = front::open(&NAME, inputs, i, arg);
+fn dump<R: Env + Files<File = File>>(
+    rt: &R,
+    streams: Streams,
+    inputs: Inputs,
+    i: usize,
+    arg: &mut [u8],
+    s: &mut [u8],
+    out: &mut [u8],
+) -> bool {
+    let input = front::open(rt, streams, &NAME, inputs, i, arg);
     if !input.found {
         return true;
     }
     let n = input.name;
-    let more = one(input, &arg[0..n], 1 < inputs.count(), s, out);
-    front::close(input, &arg[0..n]);
+    let more = one(streams, &input, &arg[0..n], 1 < inputs.count(), s, out);
+    front::close(input);
     more
 }
 
-fn main() {
-    let mut arg = io::buffer();
-    let mut s = io::large_buffer();
-    let mut out = io::large_buffer();
+fn main(rt: HostRuntime) {
+    let streams = Streams {
+        input: rt.stdin(),
+        output: rt.stdout(),
+        errors: rt.stderr(),
+    };
+    let mut arg = [0u8; 4096];
+    let mut s = [0u8; 65536];
+    let mut out = [0u8; 65536];
     let asked = front::begin(
+        &rt,
+        streams,
         &NAME,
         b"usage: dump [--] [FILE]..\n\
 Prints the frames of each reel, read from FILE, or from standard input where there is no FILE or FILE is -.\n\
@@ -88,7 +112,7 @@ Where there is more than one FILE, the lines of each follow a heading, ==> FILE 
         return;
     };
     for i in 0..inputs.count() {
-        if !dump(inputs, i, &mut arg, &mut s, &mut out) {
+        if !dump(&rt, streams, inputs, i, &mut arg, &mut s, &mut out) {
             return;
         }
     }

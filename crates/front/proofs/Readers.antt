@@ -3,14 +3,16 @@
 -- Assumes nothing.
 use mathlib.Core.Path.{◌≡◌, ap, refl, subst, sym, ◌∙◌}
 use mathlib.Core.Bool.{Bool, false, true}
-use mathlib.Core.List.{List, []}
+use mathlib.Core.List.{List}
 use Prim.Native.Nat.{ℕ, ◌+◌, ◌-◌, ◌<◌, ◌≤◌}
 use native.Mathlib.Omega.{arith}
 use borrow.Rule.Slice.PartMut.{put_mid, take_put}
 use borrow.Author.Tests.{le-leb, le-ltb, lt-leb, lt-ltb, ltb-false, ltb-true}
 use lib.Dec.{ltb}
-use lib.ListN.{drop, length, length-drop, length-set, length-take, set, take}
+use lib.ListN.{drop, length, length-drop, length-set, take}
 use lib.Seq.{length-paste, length-take-le, paste, set_out, take-paste}
+use Rattle.std.proofs.Common.{Option}
+use Rattle.std.specs.declared.io.Error.{Error}
 use Rattle.spans.specs.Spans.{slid}
 use Rattle.spans.proofs.Spans.{slid-fits}
 use Rattle.arguments.specs.declared.Place.{Place}
@@ -80,8 +82,8 @@ module _ (s read : List ℕ) (have : ℕ) (room : have ≤ length s) (long : len
   stand : take keeps (behind s read have) ≡ take have s
   stand = ap (λ (k : ℕ). take k (behind s read have)) keeps-is ∙ take_put have (length s - have) s read room
 
-  pub failed-fetches : Fetches (take have s) s (behind s read have) (record { have = have; more = false; failed = true })
-  failed-fetches = record {
+  pub failed-fetches : (w : Option Error) → Fetches (take have s) s (behind s read have) (record { have = have; more = false; failed = true; why = w })
+  failed-fetches w = record {
     front = stand;
     least = omega (arith, keeps-is);
     most = omega arith;
@@ -90,9 +92,9 @@ module _ (s read : List ℕ) (have : ℕ) (room : have ≤ length s) (long : len
     failed = λ e. sym keeps-is;
   }
 
-  pub read-fetches : (n : ℕ) → have + n ≤ length s
-      → Fetches (take have s) s (behind s read have) (record { have = have + n; more = ltb 0 n; failed = false })
-  read-fetches n h = record {
+  pub read-fetches : (n : ℕ) (w : Option Error) → have + n ≤ length s
+      → Fetches (take have s) s (behind s read have) (record { have = have + n; more = ltb 0 n; failed = false; why = w })
+  read-fetches n w h = record {
     front = stand;
     least = omega (arith, keeps-is);
     most = omega arith;

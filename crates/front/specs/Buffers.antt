@@ -1,7 +1,7 @@
 -- What the front's functions say of what they answer and of the buffers that they are lent: how many bytes, and what of them is as it was. Which bytes
 -- come is the system's (DESIGN, "The layers").
 -- Assumes nothing.
-use Rattle.std.specs.Prelude.{ℕ, ◌-◌, ◌≤◌, ◌≡◌, cond, false, true, ◌&&◌, List, [], leb, ltb, negsuc, pos, drop, length, set, take}
+use Rattle.std.specs.Prelude.{ℕ, ◌-◌, ◌≤◌, ◌≡◌, cond, false, true, ◌&&◌, List, [], leb, ltb, negsuc, pos, None, drop, length, set, take}
 use Rattle.arguments.specs.declared.Place.{Place}
 use Rattle.arguments.specs.declared.Place.TheVariants.{Argument, Nowhere, StandardInput}
 use Rattle.front.specs.declared.Asked.{Asked}
@@ -21,11 +21,11 @@ Asks Nothing = Unit
 
 -- no input
 abbrev pub missing : Input
-missing = record { found = false; fd = negsuc 0; name = 0 }
+missing = record { found = false; fd = negsuc 0; name = 0; file = None }
 
 -- Standard input, which is descriptor 0, under a name of n bytes.
 abbrev pub standard_input : ℕ → Input
-standard_input n = record { found = true; fd = pos 0; name = n }
+standard_input n = record { found = true; fd = pos 0; name = n; file = None }
 
 -- Its own name is `-`, the byte 45, where the buffer has room for that.
 unfoldable pub called : List ℕ → List ℕ

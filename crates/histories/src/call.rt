@@ -3,6 +3,7 @@ ghost use Rattle.std.specs.Prelude.{◌≡◌, ◌≤◌, length};
 
 use crate::{control, record, side};
 use book::Answer;
+use texts::put_text;
 
 fn low(n: u32) -> u8 {
     (n % 256) as u8
@@ -18,7 +19,7 @@ fn lend(book: &mut [u8], first: u64) -> Answer {
 fn poke(book: &mut [u8], at: usize, data: &[u8]) -> Answer {
     if at <= book.len() {
         if data.len() <= book.len() - at {
-            bytes::copy(data, &mut book[at..]);
+            put_text(book, at, data);
             return Answer::Done(0);
         }
         return Answer::Done(0);

@@ -5,6 +5,7 @@ ghost use Rattle.std.specs.Prelude.{◌≡◌, ◌≤◌, length};
 use crate::record;
 use book::Answer;
 use controller::{Sending, State, Turn};
+use texts::put_text;
 
 // Where the outcome stands, and where the status starts.
 const OUTCOME: usize = record::HEAD;
@@ -38,7 +39,7 @@ fn standing(outcome: u8, n: usize, lent: &mut [u8]) -> Answer {
     if lent.len() < all.len() {
         return Answer::Done(0);
     }
-    bytes::copy(&all, lent);
+    put_text(lent, 0, &all);
     Answer::Done(all.len())
 }
 
@@ -59,8 +60,8 @@ fn going(over: u8, n: usize, frame: &[u8; 12], lent: &mut [u8]) -> Answer {
         return Answer::Done(0);
     }
     let head = [over, record::low(n)];
-    bytes::copy(&head, lent);
-    bytes::copy(frame, &mut lent[2..]);
+    put_text(lent, 0, &head);
+    put_text(lent, 2, frame);
     Answer::Done(SENDING)
 }
 

@@ -4,7 +4,8 @@
 
 ghost use Rattle.std.specs.Prelude.{◌≡◌, ◌+◌, ◌≤◌, length};
 
-use libc::{STDIN_FILENO, STDOUT_FILENO};
+use std::io::{Read, Stdin, Stdout};
+use texts::put_text;
 
 mod call;
 mod control;
@@ -36,37 +37,52 @@ fn answer(r: &[u8], book: &mut [u8], lent: &mut [u8], out: &mut [u8]) -> usize
     record::fill(lent, 165);
     let said = call::carried(r[0], r, book, lent);
     let head = call::told(said);
-    bytes::copy(&head, out);
-    bytes::copy(book, &mut out[4..]);
-    bytes::copy(lent, &mut out[n..]);
+    put_text(out, 0, &head);
+    put_text(out, 4, book);
+    put_text(out, n, lent);
     all
 }
 
 // Writes the w bytes of out that are filled where it has no room for `need` more, and tells how many are filled then.
-fn room(out: &[u8], w: usize, need: usize) -> usize
+fn room(output: Stdout, out: &[u8], w: usize, need: usize) -> usize
     requires { (w ≤ length out.now) × (need ≤ length out.now) }
     ensures { result + need ≤ length out.now }
 {
     if out.len() - w < need {
-        io::write_all(STDOUT_FILENO, &out[0..w]);
+        let _ = Print::write_all(&output, &out[0..w]);
         return 0;
     }
     w
 }
 
 // Answers a record on the first `have` bytes of the book's buffer, behind the w bytes of out that are filled, and tells how many are then.
-fn step(r: &[u8], have: usize, w: usize, book: &mut [u8], lent: &mut [u8], out: &mut [u8]) -> usize
+fn step(
+    output: Stdout,
+    r: &[u8],
+    have: usize,
+    w: usize,
+    book: &mut [u8],
+    lent: &mut [u8],
+    out: &mut [u8],
+) -> usize
     requires { (12 ≤ length r.now) × (have ≤ length book.old) × (w ≤ length out.old)
         × (4 + length book.old + length lent.old ≤ length out.old) }
     ensures { result ≤ length out.old }
 {
     let o = record::output_len(r, lent.len());
-    let from = room(out, w, 4 + have + o);
+    let from = room(output, out, w, 4 + have + o);
     from + answer(r, &mut book[0..have], &mut lent[0..o], &mut out[from..])
 }
 
 // Answers the records of a block, and tells how long the book's buffer is then.
-fn block(len: usize, s: &[u8], book: &mut [u8], lent: &mut [u8], out: &mut [u8]) -> State
+fn block(
+    output: Stdout,
+    len: usize,
+    s: &[u8],
+    book: &mut [u8],
+    lent: &mut [u8],
+    out: &mut [u8],
+) -> State
     requires { (len ≤ length book.old) × (4 + length book.old + length lent.old ≤ length out.old) }
     ensures { result.len ≤ length book.old }
 {
@@ -77,23 +93,49 @@ fn block(len: usize, s: &[u8], book: &mut [u8], lent: &mut [u8], out: &mut [u8])
     while record::HEAD <= size {
         let r = &s[at..at + size];
         have = record::lent_len(r, have, book.len());
-        w = step(r, have, w, book, lent, out);
+        w = step(output, r, have, w, book, lent, out);
         at += size;
         size = record::whole(&s[at..]);
     }
     State {
         len: have,
-        more: io::write_all(STDOUT_FILENO, &out[0..w]),
+        more: Print::write_all(&output, &out[0..w]).is_ok(),
     }
 }
 
+// Reads until s is full, the input ends or a read fails, and tells how many bytes came.
+fn read_full(input: Stdin, s: &mut [u8]) -> usize
+    ensures { result ≤ length s.new }
+{
+    let mut from = input;
+    let mut have: usize = 0;
+    while have < s.len() {
+        let Ok(n) = from.read(&mut s[have..]) else {
+            return have;
+        };
+        if n == 0 {
+            return have;
+        }
+        have += n;
+    }
+    have
+}
+
 // Reads a block, or what is left of the input, and answers it.
-fn turn(len: usize, s: &mut [u8], book: &mut [u8], lent: &mut [u8], out: &mut [u8]) -> State
+fn turn(
+    input: Stdin,
+    output: Stdout,
+    len: usize,
+    s: &mut [u8],
+    book: &mut [u8],
+    lent: &mut [u8],
+    out: &mut [u8],
+) -> State
     requires { (len ≤ length book.old) × (4 + length book.old + length lent.old ≤ length out.old) }
     ensures { result.len ≤ length book.old }
 {
-    let n = io::read_full(STDIN_FILENO, s);
-    let after = block(len, &s[..n], book, lent, out);
+    let n = read_full(input, s);
+    let after = block(output, len, &s[..n], book, lent, out);
     State {
         len: after.len,
         more: after.more && n == s.len(),
@@ -101,24 +143,31 @@ fn turn(len: usize, s: &mut [u8], book: &mut [u8], lent: &mut [u8], out: &mut [u
 }
 
 // Nothing says that the input ends, so the turns are counted down from a number that no run uses up.
-fn run(s: &mut [u8], book: &mut [u8], lent: &mut [u8], out: &mut [u8])
+fn run(input: Stdin, output: Stdout, s: &mut [u8], book: &mut [u8], lent: &mut [u8], out: &mut [u8])
     requires { 4 + length book.old + length lent.old ≤ length out.old }
 {
     let mut len: usize = 0;
     let mut more = true;
     let mut turns = u64::MAX;
     while turns > 0 && more {
-        let t = turn(len, s, book, lent, out);
+        let t = turn(input, output, len, s, book, lent, out);
         len = t.len;
         more = t.more;
         turns -= 1;
     }
 }
 
-fn main() {
+fn main(rt: HostRuntime) {
     let mut s = [0u8; BLOCK];
     let mut book = [0u8; BOOK];
     let mut lent = [0u8; LENT];
     let mut out = [0u8; BLOCK];
-    run(&mut s, &mut book, &mut lent, &mut out);
+    run(
+        rt.stdin(),
+        rt.stdout(),
+        &mut s,
+        &mut book,
+        &mut lent,
+        &mut out,
+    );
 }

@@ -3,7 +3,9 @@
 #![tactic(auto)]
 
 use arguments::Inputs;
-use front::Asked;
+use front::{Asked, Streams};
+use std::fs::File;
+use std::rt::{Env, Files};
 
 // What a message begins with.
 const NAME: [u8; 7] = *b"profile";
@@ -12,38 +14,52 @@ const NAME: [u8; 7] = *b"profile";
 const READ: usize = 4097;
 
 // Writes to standard output, and tells whether it takes more.
-fn say(text: &[u8]) -> bool {
-    front::say(&NAME, text)
+fn say(streams: Streams, text: &[u8]) -> bool {
+    front::say(streams, &NAME, text)
 }
 
 // A line with the book's name and its answer. Tells whether standard output takes more.
-fn say_answer(name: &[u8], book: &[u8]) -> bool {
+fn say_answer(streams: Streams, name: &[u8], book: &[u8]) -> bool {
     let mut text = [0u8; profile_text::LONGEST];
     let n = profile_text::answer(locker_profile::check(book), &mut text);
-    if !say(name) {
+    if !say(streams, name) {
         return false;
     }
-    if !say(b" ") {
+    if !say(streams, b" ") {
         return false;
     }
-    say(&text[0..n])
+    say(streams, &text[0..n])
 }
 
 // Answers input i, if it can be read, and tells whether standard output takes more.
-fn answer(inputs: Inputs, i: usize, arg: &mut [u8], s: &mut [u8]) -> bool {
-    let content = front::read(&NAME, inputs, i, arg, s);
+fn answer<R: Env + Files<File = File>>(
+    rt: &R,
+    streams: Streams,
+    inputs: Inputs,
+    i: usize,
+    arg: &mut [u8],
+    s: &mut [u8],
+) -> bool {
+    let content = front::read(rt, streams, &NAME, inputs, i, arg, s);
     if !content.found {
         return true;
     }
     let n = content.name;
     let have = content.have;
-    say_answer(&arg[0..n], &s[0..have])
+    say_answer(streams, &arg[0..n], &s[0..have])
 }
 
-fn main() {
-    let mut arg = io::buffer();
+fn main(rt: HostRuntime) {
+    let streams = Streams {
+        input: rt.stdin(),
+        output: rt.stdout(),
+        errors: rt.stderr(),
+    };
+    let mut arg = [0u8; 4096];
     let mut s = [0u8; READ];
     let asked = front::begin(
+        &rt,
+        streams,
         &NAME,
         b"usage: profile [--] [FILE]..\n\
 Tells of each book whether it keeps the locker profile, the rules for the LoRa settings of banks. A book's bytes are read from FILE, or from\n\
@@ -61,7 +77,7 @@ and off elsewhere.\n\
         return;
     };
     for i in 0..inputs.count() {
-        if !answer(inputs, i, &mut arg, &mut s) {
+        if !answer(&rt, streams, inputs, i, &mut arg, &mut s) {
             return;
         }
     }

@@ -50,3 +50,6 @@ unfolding snr_text hundredths
 snr-length z h =
     simp length-append
     (omega (arith, minus-length (lt_z z (pos 0)), decimal-length 1 (25 * nat_abs z / 100) (omega arith)))
+
+-- what a byte stored behind a text gives, for `push`
+pub ruleset stored_behind = (room-text, full-text)

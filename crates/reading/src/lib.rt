@@ -21,6 +21,7 @@ fn last_digit(n: u32) -> u8
 }
 
 // The text with one byte more; a text that is full stays as it is.
+#[tactic(auto, using(crate::proofs::Texts::stored_behind))]
 fn push(t: Text, b: u8) -> Text
     ensures { (l : List ℕ) → t ≡ text_of l → result ≡ text_of (l ++ (b ∷ [])) }
 {

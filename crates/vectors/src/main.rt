@@ -5,7 +5,7 @@
 ghost use Rattle.std.specs.Prelude.{◌≡◌, ◌+◌, ◌≤◌, length};
 
 use answer::Answer;
-use libc::{STDIN_FILENO, STDOUT_FILENO};
+use std::io::{Read, Stdin, Stdout};
 
 mod answer;
 mod coded;
@@ -105,26 +105,44 @@ fn answer_all(s: &[u8], out: &mut [u8]) -> usize
     ANSWER * n
 }
 
+// Reads until s is full, the input ends or a read fails, and tells how many bytes came.
+fn read_full(input: Stdin, s: &mut [u8]) -> usize
+    ensures { result ≤ length s.new }
+{
+    let mut from = input;
+    let mut have: usize = 0;
+    while have < s.len() {
+        let Ok(n) = from.read(&mut s[have..]) else {
+            return have;
+        };
+        if n == 0 {
+            return have;
+        }
+        have += n;
+    }
+    have
+}
+
 // Reads once until s is full or the input ends, answers, and tells whether there may be more.
-fn turn(s: &mut [u8], out: &mut [u8]) -> bool {
-    let n = io::read_full(STDIN_FILENO, s);
+fn turn(input: Stdin, output: Stdout, s: &mut [u8], out: &mut [u8]) -> bool {
+    let n = read_full(input, s);
     let m = answer_all(&s[..n], out);
-    if !io::write_all(STDOUT_FILENO, &out[0..m]) {
+    if Print::write_all(&output, &out[0..m]).is_err() {
         return false;
     }
     n == s.len()
 }
 
 // Nothing says that the input ends, so the turns are counted down from a number that no run uses up.
-fn run(s: &mut [u8], out: &mut [u8]) {
+fn run(input: Stdin, output: Stdout, s: &mut [u8], out: &mut [u8]) {
     let mut turns = u64::MAX;
-    while turns > 0 && turn(s, out) {
+    while turns > 0 && turn(input, output, s, out) {
         turns -= 1;
     }
 }
 
-fn main() {
+fn main(rt: HostRuntime) {
     let mut s = [0u8; REQUESTS * REQUEST];
     let mut out = [0u8; REQUESTS * ANSWER];
-    run(&mut s, &mut out);
+    run(rt.stdin(), rt.stdout(), &mut s, &mut out);
 }

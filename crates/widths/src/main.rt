@@ -3,7 +3,7 @@
 #![tactic(auto)]
 
 use bank_list::{Fault, Found};
-use front::Asked;
+use front::{Asked, Streams};
 
 // What a message begins with.
 const NAME: [u8; 6] = *b"widths";
@@ -11,19 +11,32 @@ const NAME: [u8; 6] = *b"widths";
 // A byte more than the longest list has, so that a longer one is told without being read whole.
 const READ: usize = 65537;
 
-fn wrong_line(name: &[u8], line: usize, fault: Fault) {
+fn wrong_line(streams: Streams, name: &[u8], line: usize, fault: Fault) {
     match fault {
         Fault::NotABank => {
-            front::wrong_line(&NAME, name, line, b"not a need, nor a need and a code");
+            front::wrong_line(
+                streams,
+                &NAME,
+                name,
+                line,
+                b"not a need, nor a need and a code",
+            );
         }
         Fault::NeedPast => {
-            front::wrong_line(&NAME, name, line, b"a need past 18446744073709551615");
+            front::wrong_line(
+                streams,
+                &NAME,
+                name,
+                line,
+                b"a need past 18446744073709551615",
+            );
         }
         Fault::CodePast => {
-            front::wrong_line(&NAME, name, line, b"a code above 255");
+            front::wrong_line(streams, &NAME, name, line, b"a code above 255");
         }
         Fault::CodeLacking => {
             front::wrong_line(
+                streams,
                 &NAME,
                 name,
                 line,
@@ -32,6 +45,7 @@ fn wrong_line(name: &[u8], line: usize, fault: Fault) {
         }
         Fault::CodeSurplus => {
             front::wrong_line(
+                streams,
                 &NAME,
                 name,
                 line,
@@ -42,26 +56,33 @@ fn wrong_line(name: &[u8], line: usize, fault: Fault) {
 }
 
 // The answer to a list, or what is wrong with it.
-fn answer(name: &[u8], text: &[u8], out: &mut [u8]) {
+fn answer(streams: Streams, name: &[u8], text: &[u8], out: &mut [u8]) {
     if text.len() == READ {
-        front::wrong_input(&NAME, name, b"more than 65536 bytes");
+        front::wrong_input(streams, &NAME, name, b"more than 65536 bytes");
         return;
     }
     let list = bank_list::read(text);
     let found = list.found;
     if let Found::Wrong { line, fault } = found {
-        wrong_line(name, line, fault);
+        wrong_line(streams, name, line, fault);
         return;
     }
     let n = widths_text::answer(list, out);
-    front::say(&NAME, &out[0..n]);
+    front::say(streams, &NAME, &out[0..n]);
 }
 
-fn main() {
-    let mut arg = io::buffer();
+fn main(rt: HostRuntime) {
+    let streams = Streams {
+        input: rt.stdin(),
+        output: rt.stdout(),
+        errors: rt.stderr(),
+    };
+    let mut arg = [0u8; 4096];
     let mut s = [0u8; READ];
-    let mut out = io::buffer();
+    let mut out = [0u8; 4096];
     let asked = front::begin(
+        &rt,
+        streams,
         &NAME,
         b"usage: widths [--] [FILE]\n\
 Finds for each bank the narrowest FSK receive width that is at least its need, or judges the codes proposed. A list is read from FILE, or from standard\n\
@@ -78,13 +99,13 @@ With codes: ok, or the first bank that is refused, and for 20 a line with its ri
         return;
     };
     if 1 < inputs.count() {
-        front::wrong_call(&NAME, b"one list at a time");
+        front::wrong_call(streams, &NAME, b"one list at a time");
         return;
     }
-    let content = front::read(&NAME, inputs, 0, &mut arg, &mut s);
+    let content = front::read(&rt, streams, &NAME, inputs, 0, &mut arg, &mut s);
     if content.found {
         let n = content.name;
         let have = content.have;
-        answer(&arg[0..n], &s[0..have], &mut out);
+        answer(streams, &arg[0..n], &s[0..have], &mut out);
     }
 }
