@@ -18,4 +18,5 @@ pub returns : goal.returns
 returns c =
     let room = c.if-out-lt-LONGEST.false in
     let put = c.put_line.ensures in
-    record { value = (puts_whole _ _ longest (line-longest _ _) room put).0; out_after = (puts_whole _ _ longest (line-longest _ _) room put).1.0; upper_bound = (puts_whole _ _ longest (line-longest _ _) room put).1.1 }
+    let whole = puts_whole _ _ longest (line-longest _ _) room put in
+    record { value = whole.0; out_after = whole.1.0; upper_bound = whole.1.1 }
