@@ -9,6 +9,7 @@ from commands import MOST_ARGUMENTS, MOST_KINDS, WORD, bits, codes_of, enum_of, 
 
 MADE_BY = "Made from docs/commands.json by docs/make_reference.py"
 LINE, SOURCE_LINE, CALL = 160, 100, 60  # columns of a proof, and of a source and its calls as rt fmt has them
+SHORT = 10  # of an array whose items are no longer, rt fmt fills the lines
 FIRST_FIELD = 4  # opcode, length, slot and number of fields stand before the fields of a row
 
 
@@ -42,24 +43,46 @@ def call(head, items, tail, indent):
     return [indent + head] + ["%s    %s," % (indent, item) for item in items] + [indent + tail]
 
 
-def filled(words, indent="    "):
-    """Lines of at most 160 columns, broken between words."""
+def array(head, items, tail, indent=""):
+    """An array as rt fmt lays it out: as a call, but that short items fill their lines."""
+    lines = call(head, items, tail, indent)
+    if len(lines) == 1 or max(map(len, items)) > SHORT:
+        return lines
+    return [indent + head] + filled([item + "," for item in items], indent + "    ", SOURCE_LINE) + [indent + tail]
+
+
+def imports(uses):
+    """`use` lines as rt fmt has them: this crate's first, and one for each module; in several lines where it is longer than 100 columns."""
+    modules, out = {}, []
+    for use in uses:
+        module, name = use.rsplit("::", 1)
+        modules.setdefault(module, []).append(name)
+    for module in sorted(modules, key=lambda module: (module.split("::")[0] != "crate", module)):
+        names = sorted(modules[module])
+        one_line = "use %s::%s;" % (module, names[0] if len(names) == 1 else "{%s}" % ", ".join(names))
+        if len(one_line) <= SOURCE_LINE:
+            out.append(one_line)
+        else:
+            out += ["use %s::{" % module] + filled([name + "," for name in names], limit=SOURCE_LINE) + ["};"]
+    return out
+
+
+def filled(words, indent="    ", limit=LINE):
+    """Lines of at most so many columns, broken between words."""
     lines = [indent]
     for word in words:
-        if lines[-1] != indent and len(lines[-1]) + 1 + len(word) > LINE:
+        if lines[-1] != indent and len(lines[-1]) + 1 + len(word) > limit:
             lines.append(indent)
         lines[-1] += word if lines[-1] == indent else " " + word
     return lines
 
 
-def wrapped(line):
-    """A line of a proof in lines of at most 160 columns; what stands in brackets behind `c` stays whole."""
-    return filled(re.findall(r"\(c(?: \.[\w-]+)*\)+|\S+", line))
-
-
-def keys(count):
-    """What a proof says of the arms of a match on single numbers."""
-    return filled(["(λ c. is (c .match .keys%d))" % n for n in range(1, count + 1)])
+def answers(unfolded, numbers):
+    """What a proof says of the arms of a match on single numbers; an empty line stands before what follows."""
+    out = []
+    for n in numbers:
+        out += ["", "pub returns-in-%d : goal.returns-in-%d" % (n, n), "unfolding " + unfolded, "returns-in-%d c = is c.in-%d.is" % (n, n)]
+    return out[1:] + [""]
 
 
 def listed(items):
@@ -98,7 +121,7 @@ def row_constant(data, k):
     cells = [cell(data, a)[0] for a in k["arguments"]]
     head = ["0x" + k["opcode"], str(k["length"]), "ACTION" if k["slot"] is None else str(k["slot"]), str(len(cells))]
     size = FIRST_FIELD + MOST_ARGUMENTS
-    return call("pub const ROW_%d: [u32; %d] = [" % (k["kind"], size), head + cells + ["0"] * (MOST_ARGUMENTS - len(cells)), "];", "")
+    return array("pub const ROW_%d: [u32; %d] = [" % (k["kind"], size), head + cells + ["0"] * (MOST_ARGUMENTS - len(cells)), "];")
 
 
 def twin(data, k):
@@ -125,7 +148,7 @@ def table_rows(data):
     cells = sorted({cell(data, a) for k in data["kinds"] for a in k["arguments"]}, key=lambda c: c[1])
     out = ["// %s: the cells, the rows, the pairs of forms and the heads." % MADE_BY,
            "// The check refuses a number that is not as specs/Table.antt has it.",
-           "use crate::ACTION;", "use crate::KINDS;", "use crate::PAIRS;", "",
+           "use crate::{ACTION, KINDS, PAIRS};", "",
            "// The fields' numbers, named by their places: B2_7_4 is byte 2, bits 7 to 4; W2_3 is bytes 2 and 3; L3_10 is bytes 3 to 10, low byte first.",
            "// C stands for B or W where the argument is a code: an enum's, or a yes or no. %s: one of that list of codes;" % endings,
            "// _TO9: nothing above 9; _CUT3: narrowed to 3 bits.",
@@ -134,10 +157,10 @@ def table_rows(data):
     out += constants(["const %s: u32 = %s;" % (name, hexed(number, 8)) for name, number in cells])
     out += ["", "// ROW_k is kind k: opcode, length, slot, number of fields, and the fields in the Rust's argument order."]
     out += constants(["\n".join(row_constant(data, k)) for k in data["kinds"]])
-    out += [""] + ["pub const TABLE: [[u32; %d]; KINDS as usize] = [" % (FIRST_FIELD + MOST_ARGUMENTS)]
-    out += ["    ROW_%d," % k["kind"] for k in data["kinds"]] + ["];", ""]
+    out += [""] + array("pub const TABLE: [[u32; %d]; KINDS as usize] = [" % (FIRST_FIELD + MOST_ARGUMENTS),
+                        ["ROW_%d" % k["kind"] for k in data["kinds"]], "];") + [""]
     out += ["// The kinds that are one setting in two lengths, the shorter form first."]
-    out += call("pub const FORMS: [[u64; 2]; PAIRS] = [", ["[%d, %d]" % tuple(pair) for pair in data["forms"]], "];", "")
+    out += array("pub const FORMS: [[u64; 2]; PAIRS] = [", ["[%d, %d]" % tuple(pair) for pair in data["forms"]], "];")
     out += ["", "// HEAD_k is what the code wants of row k beside its fields (specs/Heads.antt). In hex: two digits for the row's place, two for the",
             "// slot, the number of fields, the length, and the length of the next row where that has the same opcode."]
     return out + constants(["\n".join(head_constant(data, k)) for k in data["kinds"]])
@@ -160,9 +183,9 @@ def head_at(data):
     return at_places(data, lambda k: "kinds::HEAD_%d" % k["kind"])
 
 
-def place_keys(data):
+def place_answers(unfolded):
     """The last row has no number of its own: its arm is for all places from there on."""
-    return keys(len(data["kinds"]) - 1)
+    return lambda data: answers(unfolded, range(len(data["kinds"]) - 1))
 
 
 # ---- codes
@@ -186,7 +209,7 @@ def codes_lists(data):
     out += ["const COUNT: usize = %d;" % len(data["lists"]), "", "const LISTS: [[u64; 4]; COUNT] = ["]
     for e in lists(data):
         said = ["%s_%d" % (snake(e["name"]), 64 * w) for w in range(4)] if e in wide else [hexed(words(e)[0]), "0", "0", "0"]
-        out += call("[", said, "],", "    ")
+        out += array("[", said, "],", "    ")
     return out + ["];"]
 
 
@@ -206,8 +229,8 @@ def seat_of(data):
     return arms([("0x" + k["opcode"], "kinds::HEAD_%d" % k["kind"]) for k in seats(data)])
 
 
-def seat_keys(data):
-    return keys(len(seats(data)))
+def seat_answers(data):
+    return answers("seat_from", [int(k["opcode"], 16) for k in seats(data)])
 
 
 def masks(k):
@@ -239,13 +262,13 @@ def reader_arm(k, last):
 
 
 # What a reader of rows gives: whether the frame is good, and its arguments.
-READS = "    ensures { λ r. ⌜ (r ≡ goodFrame (rowAt i) (now (frame .entry))) × (now (args .exit) ≡ nineIn (rowAt i) (now (frame .entry))) ⌝ }"
+READS = "    ensures { (result ≡ good_frame (row_at i) frame.now) × (args.new ≡ nine_in (row_at i) frame.now) }"
 
 
 def reader(name, at, kinds):
     out = ["// The same for a row of cmd_%s." % name,
            "fn read_%s(i: usize, frame: &[u8], args: &mut [u64; %d]) -> bool" % (name, MOST_ARGUMENTS),
-           "    requires { ⌜ (%d ≤ i) × (i < %d) × (lenOf (rowAt i) ≡ length (now frame)) ⌝ }" % (at, at + len(kinds)),
+           "    requires { (%d ≤ i) × (i < %d) × (len_of (row_at i) ≡ length frame.now) }" % (at, at + len(kinds)),
            READS, "{", "    match i {"]
     return out + [line for k in kinds for line in reader_arm(k, k is kinds[-1])] + ["    }", "}"]
 
@@ -255,13 +278,13 @@ def decoder_rows(data):
            "// Length and fields are constants there, so that what reads a field is a shift and a cut by numbers that the compiler knows. A place, a",
            "// length or a field that is not the row's is refused by the proof. A short frame has no first word, and most rows have no field of",
            "// eight bytes: both are then 0.",
-           "ghost use mathlib.Core.Path.{_≡_};", "ghost use Prim.Native.Nat.{_<_, _≤_};", "ghost use lib.ListN.{length};",
-           "ghost use Rattle·table.specs.Table.{kinds, rowAt, lenOf};", "ghost use Rattle·decoder·specs.specs.Words.{goodFrame, nineIn};",
-           "use crate::first_of;", "use crate::last_of;", "use crate::read_fields;", "use table::fields;", "",
+           "ghost use Rattle.std.specs.Prelude.{◌≡◌, ◌<◌, ◌≤◌, length};",
+           "ghost use Rattle.table.specs.Table.{kinds, row_at, len_of};", "ghost use Rattle.decoder.specs.Words.{good_frame, nine_in};", "",
+           "use crate::{first_of, last_of, read_fields};", "use table::fields;", "",
            "// No field.", "const NONE: u32 = 0;", "",
            "// The arguments of a frame with the length of the row at a place; whether it has no stray bit, and each of them is taken.",
            "pub(crate) fn read_row(i: usize, frame: &[u8], args: &mut [u64; %d]) -> bool" % MOST_ARGUMENTS,
-           "    requires { ⌜ (i < kinds) × (lenOf (rowAt i) ≡ length (now frame)) ⌝ }",
+           "    requires { (i < kinds) × (len_of (row_at i) ≡ length frame.now) }",
            READS, "{"]
     for (name, _, _), behind in zip(files(data), files(data)[1:] + [None]):
         told = "read_%s(i, frame, args)" % name
@@ -269,51 +292,48 @@ def decoder_rows(data):
     return out + [line for file in files(data) for line in [""] + reader(*file)]
 
 
-def before(count):
-    return "c" + " .before" * count
-
-
-def nth(word, n):
-    return word if n == 1 else "%s%d" % (word, n)
-
-
 class Arm:
     """What the proof of a reader says of one of its rows: what the calls of its arm ask (`asks`) and what the last of them gives (`gives`)."""
 
     def __init__(self, kinds, index):
-        self.kind, self.index = kinds[index], index
-        self.is_last, self.is_long = index == len(kinds) - 1, self.kind["length"] > WORD
-        self.whole = whole(self.kind)
-        self.firsts = sum(k["length"] > WORD for k in kinds[:index + 1])
-        self.wholes = sum(whole(k) is not None for k in kinds[:index + 1])
-        # calls between the match and the last
-        self.between = self.is_long + 2 * (self.whole is not None)
+        self.kinds, self.index, self.kind = kinds, index, kinds[index]
+        self.is_last, self.is_long, self.whole = index == len(kinds) - 1, self.kind["length"] > WORD, whole(self.kind)
+        self.place = "in_default" if self.is_last else "in-%d" % (self.kind["kind"] - 1)
 
-    def row(self, back):
-        was = "(%s .match .keys%d)" % (before(back), self.index + 1)
-        if self.is_last:
-            was = "(end (%s) (%s .match .rest))" % (before(back + 2), before(back))
-        return "(row (%s) %d %d %s refl)" % (before(back + 2), self.kind["kind"] - 1, self.kind["length"], was)
+    def said(self, name, what=""):
+        """The name of a call, or of what it asks, which ends with the arm's place but in the first arm that has such a call."""
+        calls = {"first_of": lambda k: k["length"] > WORD, "get": lambda k: whole(k) is not None, "narrow_field": lambda k: whole(k) is not None}
+        is_first = not any(map(calls.get(name, lambda k: True), self.kinds[:self.index]))
+        return name + what + ("" if is_first else "-" + self.place)
 
-    def words(self, back):
-        first = "(%s .%s .ensures)" % (before(back + self.between), nth("first-of", self.firsts)) if self.is_long else "refl"
-        return "_ refl _ _ %s (%s .%s .ensures)" % (first, before(back + self.between - self.is_long), nth("last-of", self.index + 1))
+    def gave(self, name):
+        return "c.%s.ensures" % self.said(name)
+
+    def row(self):
+        was = "(end c.requires.0 c.requires.1 c.in_default.in_default-own.rest)" if self.is_last else "c.%s.is" % self.place
+        return "(row %d %d c.requires %s refl)" % (self.kind["kind"] - 1, self.kind["length"], was)
+
+    def words(self):
+        return "_ refl _ _ %s %s" % (self.gave("first_of") if self.is_long else "refl", self.gave("last_of"))
+
+    def answer(self, name, text):
+        lines = ["pub %s : goal.%s" % (name, name), "unfolding row_at first_word only_wide narrow_of sound"]
+        one_line = "%s c = %s" % (name, text)
+        return lines + ([one_line] if len(one_line) <= LINE else ["%s c =" % name] + filled(text.split(" "))) + [""]
 
     def asks(self):
-        out = [wrapped("(λ c κs. fits %s)" % self.row(back)) for back in range(1 + self.is_long)]
+        out = []
+        for name in ["first_of"] * self.is_long + ["last_of"]:
+            out += self.answer(self.said(name, "-requires"), "fits %s" % self.row())
         held = "0 0 (nothing _)"
         if self.whole is not None:
-            cell_at = "(getD (rowAt %d) %d 0)" % (self.kind["kind"] - 1, FIRST_FIELD + self.whole)
-            held = "_ %s (got %s _ _ (c .before .before .%s .ensures) tt _ (c .before .%s .ensures))" % (
-                cell_at, cell_at, nth("narrow-field", self.wholes), nth("get", self.wholes))
-            out.append(["    (search needs) (search needs)"])
-        out += [wrapped("(λ c κs. asks %s" % self.row(2 + self.between)), wrapped("%s %s tt)" % (self.words(1), held))]
-        return [line for lines in out for line in lines]
+            cell_at = "(get_or (row_at %d) %d 0)" % (self.kind["kind"] - 1, FIRST_FIELD + self.whole)
+            held = "_ %s (got %s _ _ %s tt _ %s)" % (cell_at, cell_at, self.gave("narrow_field"), self.gave("get"))
+        return out + self.answer(self.said("read_fields", "-requires"), "asks %s %s %s tt" % (self.row(), self.words(), held))
 
     def gives(self):
-        given = nth("read-fields", self.index + 1)
-        return wrapped("(λ c. gives %s" % self.row(3 + self.between)) + wrapped(
-            "%s _ _ (c .%s .ensures .0) (c .%s .ensures .1))" % (self.words(2), given, given))
+        given = self.gave("read_fields")
+        return self.answer("returns-" + self.place, "gives %s %s _ _ %s.0 %s.1" % (self.row(), self.words(), given, given))
 
 
 def reader_proof(name, at, kinds):
@@ -321,38 +341,21 @@ def reader_proof(name, at, kinds):
     has_whole = any(whole(k) is not None for k in kinds)
     out = ["-- %s: the arms of cmd_%s's rows. What an arm asks and gives is one law each" % (MADE_BY, name),
            "-- (proofs/Arms.antt); its place, length and fields are its row's by `refl`. Assumes nothing.",
-           "use mathlib.Core.Path.{_≡_, refl}", "use Prim.Native.Nat.{ℕ}", "use native.Mathlib.Omega.{arith}"]
-    out += ["use borrow.Author.Needs.{needs}", "use lib.ListN.{getD}"] * has_whole
-    out += ["use Rattle·frame.specs.Field.{sound}", "use Rattle·table.specs.Number.{narrowOf}", "use Rattle·table.specs.Table.{rowAt, lenOf}",
-            "use Rattle·table.proofs.Past.{Past, past}", "use Rattle·decoder·specs.specs.Words.{firstWord}",
-            "use Rattle·decoder·proofs.proofs.Arms.{Arm, fits, asks, gives, %snothing, onlyWide}" % ("got, " if has_whole else ""),
-            "use Rattle·decoder·proofs.proofs.rows.read_%s.Statement.{statement}" % name,
-            "use Rattle·decoder·proofs.proofs.rows.read_%s.Tie as tie" % name, "",
-            "-- the arm of the row at k, which has n bytes",
-            "row : (s : tie.Start) (k n : ℕ) → s .args .i ≡ k → lenOf (rowAt k) ≡ n → Arm (s .args .i) k n (s .args .frame .now)",
-            "row s k n e en = record { this = e; of-table = omega (arith, s .pre .1); long = s .pre .2; length-is = en }", "",
-            "-- what is matched last is the last place",
-            "end : (s : tie.Start) → Past %d %d (s .args .i) → s .args .i ≡ %d" % (at, end, at + end),
-            "end s h = omega (arith, past %d %d (s .args .i) (s .pre .0) h, s .pre .1)" % (at, end), "",
-            "pub read-%s-spec : {M : Type 1} → statement M" % name, "unfolding rowAt firstWord onlyWide narrowOf sound", "read-%s-spec =" % name,
-            "    tie.close", "    (tie.spec"]
+           "use mathlib.Core.Path.{◌≡◌, refl}", "use mathlib.Core.List.{List}", "use Prim.Native.Nat.{ℕ, ◌<◌, ◌≤◌}", "use native.Mathlib.Omega.{arith}",
+           "use lib.ListN.{%slength}" % ("get_or, " if has_whole else ""),
+           "use Rattle.frame.specs.Field.{sound}", "use Rattle.table.specs.Number.{narrow_of}", "use Rattle.table.specs.Table.{row_at, len_of}",
+           "use Rattle.table.proofs.Past.{Past, past}", "use Rattle.decoder.specs.Words.{first_word}",
+           "use Rattle.decoder.proofs.Arms.{Arm, fits, asks, gives, %snothing, only_wide}" % ("got, " if has_whole else ""),
+           "use Rattle.decoder.proofs.rows.read_%s.Goals as goal" % name, "",
+           "-- the arm of the row at k, which has n bytes",
+           "row : {i : ℕ} {s : List ℕ} (k n : ℕ) → (%d ≤ i) × (i < %d) × (len_of (row_at i) ≡ length s) → i ≡ k → len_of (row_at k) ≡ n → Arm i k n s" % (
+               at, at + end + 1),
+           "row k n r e en = record { this = e; of-table = omega (arith, r.1); long = r.2; length-is = en }", "",
+           "-- what is matched last is the last place",
+           "end : {i : ℕ} → %d ≤ i → i < %d → Past %d %d i → i ≡ %d" % (at, at + end + 1, at, end, at + end),
+           "end low high p = omega (arith, past %d %d _ low p, high)" % (at, end), ""]
     told = [Arm(kinds, i) for i in range(len(kinds))]
-    said = [line for arm in told for line in arm.asks()] + [line for arm in told for line in arm.gives()]
-    return out + said[:-1] + [said[-1] + ")"]
-
-
-def read_row_proof(data):
-    held, asks = files(data), []
-    for j, (name, _, _) in enumerate(held):
-        last = j == len(held) - 1
-        start = before(3 + j - last)
-        low = "zero-le" if j == 0 else "%s .if%d .left" % (before(2 - last), j)
-        high = "c .before .if%d .taken" % (j + 1) if not last else "%s .pre .0" % start
-        asks += ["(λ c κs. (%s, %s, %s .pre .1))" % (low, high, start), "(λ c. c .read-%s .ensures)" % name]
-    return ["-- %s: each file's reader has its rows. Assumes nothing." % MADE_BY, "use Prim.Native.Nat.{zero-le}",
-            "use Rattle·decoder·proofs.proofs.rows.read_row.Statement.{statement}", "use Rattle·decoder·proofs.proofs.rows.read_row.Tie as tie", "",
-            "pub read-row-spec : {M : Type 1} → statement M", "read-row-spec =", "    tie.close", "    (tie.spec"] + [
-            "    %s%s" % (line, ")" if i == len(asks) - 1 else "") for i, line in enumerate(asks)]
+    return (out + [line for arm in told for line in arm.asks()] + [line for arm in told for line in arm.gives()])[:-1]
 
 
 # ---- settings and book
@@ -361,8 +364,8 @@ def head_of(data):
     return arms([(k["slot"], "kinds::HEAD_%d" % k["kind"]) for k in settings(data)])
 
 
-def slot_keys(data):
-    return keys(len(settings(data)))
+def slot_answers(data):
+    return answers("size_of lengths", [k["slot"] for k in settings(data)])
 
 
 def settings_actions(data):
@@ -394,7 +397,7 @@ def full_slots(data):
 # ---- enums
 
 def spec_name(enum):
-    return enum["name"][0].lower() + enum["name"][1:]
+    return snake(enum["name"]).lower()
 
 
 def variant(enum, name):
@@ -408,43 +411,42 @@ def enum_uses(data, form):
 def valued(enum):
     """The values in the order of their codes, in one line where they fit."""
     values = [variant(enum, name) for _, name in sorted(enum["codes"])] + ["[]"]
-    one_line = "valuesOf %s = %s" % (spec_name(enum), " ∷ ".join(values))
+    one_line = "values_of %s = %s" % (spec_name(enum), " ∷ ".join(values))
     if len(one_line) <= LINE:
         return [one_line]
-    return ["valuesOf %s =" % spec_name(enum)] + filled(values[:1] + ["∷ " + value for value in values[1:]])
+    return ["values_of %s =" % spec_name(enum)] + filled(values[:1] + ["∷ " + value for value in values[1:]])
 
 
 def enums_specs(data):
     names = [spec_name(e) for e in data["enums"]]
-    crates = {"cmd_" + name: [spec_name(e) + "Code" for e in data["enums"] if e["file"] == "cmd_" + name] for name, _, _ in files(data)}
+    crates = {"cmd_" + name: [spec_name(e) + "_code" for e in data["enums"] if e["file"] == "cmd_" + name] for name, _, _ in files(data)}
     out = ["-- %s: the enums of the port, their values and codes. proofs/Listed.antt" % MADE_BY,
            "-- shows that no value is missing (REFERENCE, \"Commands\"). Assumes nothing.",
-           "use Prim.Native.Nat.{ℕ}", "use mathlib.Core.Bool.{Bool, true, false}", "use mathlib.Core.List.{List, [], _∷_}",
-           "use Rattle·table.specs.Table.{yesNo}"]
-    out += ["use Rattle·%s.specs.Codes.{%s}" % (crate, ", ".join(codes[i:i + 5])) for crate, codes in crates.items() for i in range(0, len(codes), 5)]
-    out += enum_uses(data, "use Rattle·{file}.specs.declared.{name}.{{{name}}}")
-    out += enum_uses(data, "use Rattle·{file}.specs.declared.{name}.the-variants as {name}V")
-    out += ["", "-- the enums, and the yes or no", "pub data Enum : Type 0 where", "  yesOrNo : Enum"] + ["  %s : Enum" % name for name in names]
-    out += ["", "abbrev pub Value : Enum → Type 0", "Value yesOrNo = Bool"] + ["Value %s = %s" % (spec_name(e), e["name"]) for e in data["enums"]]
-    out += ["", "-- the code of a value: its number in the frame", "abbrev pub codeOf : (e : Enum) → Value e → ℕ", "codeOf yesOrNo b = yesNo b"]
-    out += ["codeOf %s x = %sCode x" % (name, name) for name in names]
-    out += ["", "-- the values of each, in the order of their codes", "abbrev pub valuesOf : (e : Enum) → List (Value e)",
-            "valuesOf yesOrNo = false ∷ true ∷ []"]
+           "use Rattle.std.specs.Prelude.{ℕ, Bool, true, false, List, [], ◌∷◌}", "use Rattle.table.specs.Table.{yes_no}"]
+    out += ["use Rattle.%s.specs.Codes.{%s}" % (crate, ", ".join(codes[i:i + 5])) for crate, codes in crates.items() for i in range(0, len(codes), 5)]
+    out += enum_uses(data, "use Rattle.{file}.specs.declared.{name}.{{{name}}}")
+    out += enum_uses(data, "use Rattle.{file}.specs.declared.{name}.TheVariants as {name}V")
+    out += ["", "-- the enums, and the yes or no", "pub data Enum : Type 0 where", "  yes_or_no : Enum"] + ["  %s : Enum" % name for name in names]
+    out += ["", "abbrev pub Value : Enum → Type 0", "Value yes_or_no = Bool"] + ["Value %s = %s" % (spec_name(e), e["name"]) for e in data["enums"]]
+    out += ["", "-- the code of a value: its number in the frame", "abbrev pub code_of : (e : Enum) → Value e → ℕ", "code_of yes_or_no b = yes_no b"]
+    out += ["code_of %s x = %s_code x" % (name, name) for name in names]
+    out += ["", "-- the values of each, in the order of their codes", "abbrev pub values_of : (e : Enum) → List (Value e)",
+            "values_of yes_or_no = false ∷ true ∷ []"]
     return out + [line for e in data["enums"] for line in valued(e)]
 
 
 def enums_listed(data):
     out = ["-- %s: no value is missing from the list of its enum, since the code of every" % MADE_BY,
            "-- value is among the codes. Assumes nothing.",
-           "use mathlib.Core.Bool.{true, false}", "use lib.Dec.{T}", "use Rattle·table.specs.Codes.{isIn}",
-           "use Rattle·enums·specs.specs.Enums.{Enum, Value, codeOf}", "use Rattle·enums·specs.specs.Enums as of",
-           "use Rattle·enums·specs.specs.Values.{codesIn}"]
-    out += enum_uses(data, "use Rattle·{file}.specs.declared.{name}.the-variants as {name}V")
-    out += ["", "pub listed : (e : Enum) (x : Value e) → T (isIn (codeOf e x) (codesIn e))", "unfolding isIn",
-            "listed of.yesOrNo x = elim x as (λ y. T (isIn (codeOf of.yesOrNo y) (codesIn of.yesOrNo))) [ true ↦ tt | false ↦ tt ]"]
+           "use mathlib.Core.Bool.{true, false}", "use lib.Dec.{T}", "use Rattle.table.specs.Codes.{is_in}",
+           "use Rattle.enums.specs.Enums.{Enum, Value, code_of}", "use Rattle.enums.specs.Enums as of",
+           "use Rattle.enums.specs.Values.{codes_in}"]
+    out += enum_uses(data, "use Rattle.{file}.specs.declared.{name}.TheVariants as {name}V")
+    out += ["", "pub listed : (e : Enum) (x : Value e) → T (is_in (code_of e x) (codes_in e))", "unfolding is_in",
+            "listed of.yes_or_no x = elim x as (λ y. T (is_in (code_of of.yes_or_no y) (codes_in of.yes_or_no))) [ true ↦ tt | false ↦ tt ]"]
     for e in data["enums"]:
         name = "of." + spec_name(e)
-        out.append("listed %s x = elim x as (λ y. T (isIn (codeOf %s y) (codesIn %s))) [" % (name, name, name))
+        out.append("listed %s x = elim x as (λ y. T (is_in (code_of %s y) (codes_in %s))) [" % (name, name, name))
         out += ["  | %s ↦ tt" % variant(e, value) for _, value in e["codes"]] + ["]"]
     return out
 
@@ -453,7 +455,7 @@ def enum_sorts(data):
     def sort(a):
         if a["takes"] == "number":
             return "number"
-        return "code of." + ("yesOrNo" if a["takes"] == "yes or no" else spec_name(enum_of(data, a)))
+        return "code of." + ("yes_or_no" if a["takes"] == "yes or no" else spec_name(enum_of(data, a)))
 
     out = []
     for k in data["kinds"]:
@@ -498,7 +500,7 @@ def vectors_builders(data, name, at, kinds):
     uses |= {"crate::request::" + reader_of(data, a) for a in asked if not is_code(data, a)}
     span = "%d to %d" % (at + 1, at + len(kinds))
     out = ["// %s: the builders of cmd_%s, kinds %s." % (MADE_BY, name, span)]
-    out += ["use %s;" % use for use in sorted(uses, key=lambda use: (not use.startswith("crate"), use))]
+    out += imports(uses)
     out += ["", "// The answer for a kind from %s; empty for any other." % span, "pub fn built(kind: u8, p: &[u8]) -> Answer {", "    match kind {"]
     out += arms([(k["kind"], "kind_%d(%s)" % (k["kind"], "p" if k["arguments"] else "")) for k in kinds] + [("_", "Answer::new()")]) + ["    }", "}", ""]
     for k in kinds:
@@ -523,18 +525,18 @@ def made(data):
         "crates/table/src/lib.rt": {"counts": table_counts, "row_at": row_at, "head_at": head_at},
         "crates/table/src/kinds.rt": {None: table_rows},
         "crates/table/src/fields.rt": {None: table_fields},
-        "crates/table/proofs/row_at/Proof.antt": {"arms": place_keys},
-        "crates/table/proofs/head_at/Proof.antt": {"arms": place_keys},
+        "crates/table/proofs/row_at/Answers.antt": {"arms": place_answers("row_at")},
+        "crates/table/proofs/head_at/Answers.antt": {"arms": place_answers("head_at")},
         "crates/codes/src/lib.rt": {"lists": codes_lists},
         "crates/codes/proofs/Listed.antt": {"words": codes_words},
         "crates/decoder/src/seats.rt": {"seat_of": seat_of},
-        "crates/decoder/proofs/seats/seat_of/Proof.antt": {"arms": seat_keys},
+        "crates/decoder/proofs/seats/seat_of/Answers.antt": {"arms": seat_answers},
         "crates/decoder/src/lib.rt": {"held_at": held_at},
-        "crates/decoder/proofs/held_at/Proof.antt": {"arms": place_keys},
+        "crates/decoder/proofs/held_at/Answers.antt": {
+            "arms": place_answers("held_of row_at first_word last_word big_end mask_of mask narrows_of narrow_of")},
         "crates/decoder/src/rows.rt": {None: decoder_rows},
-        "crates/decoder/proofs/rows/read_row/Proof.antt": {None: read_row_proof},
         "crates/settings/src/lib.rt": {"head_of": head_of},
-        "crates/settings/proofs/head_of/Proof.antt": {"arms": slot_keys},
+        "crates/settings/proofs/head_of/Answers.antt": {"arms": slot_answers},
         "crates/settings/proofs/Settings.antt": {"actions": settings_actions},
         "crates/book/proofs/Full.antt": {"front": full_front, "last": full_last, "slots": full_slots},
         "crates/enums/specs/Enums.antt": {None: enums_specs},
@@ -544,5 +546,5 @@ def made(data):
     }
     for name, at, kinds in files(data):
         held["crates/vectors/src/%s.rt" % name] = {None: lambda _, file=(name, at, kinds): vectors_builders(data, *file)}
-        held["crates/decoder/proofs/rows/read_%s/Proof.antt" % name] = {None: lambda _, file=(name, at, kinds): reader_proof(*file)}
+        held["crates/decoder/proofs/rows/read_%s/Answers.antt" % name] = {None: lambda _, file=(name, at, kinds): reader_proof(*file)}
     return held

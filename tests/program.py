@@ -6,7 +6,7 @@ HERE = os.path.dirname(os.path.abspath(__file__))
 
 def command(name):
     """The words that run it."""
-    words = [os.path.join(HERE, "..", "target", "bin", name)]
+    words = [os.path.join(HERE, "..", "crates", name, "out", name)]
     return words if os.uname().machine == "x86_64" else ["sh", os.path.join(HERE, "run-rattle")] + words
 
 

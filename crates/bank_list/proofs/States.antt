@@ -102,6 +102,9 @@ module _ (k n c count : ℕ) where
       rw (kept_more (m ∷ ns) n count here, kept_more (d ∷ cs) c count there, count-more (m ∷ ns) n count here)
   proposal-proposals (faulty j f) w e = absurd (apart (cc))
 
+-- what the check tries at the goals of `with_proposal`
+pub ruleset proposal_steps = (found_as, proposal-first, proposal-surplus, proposal-proposals, wrong_stays)
+
 -- ---- pairs
 
 pub paired-after : (p : Parsed) (k : ℕ) (s : Line) → Paired p → Paired (after_line p k s)

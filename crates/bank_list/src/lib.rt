@@ -9,7 +9,7 @@ ghost use Rattle.bank_list.specs.Banks.{Paired, Parsed, after_line, empty_of, li
 
 // What is wrong with a line: it cannot be read, its need is past 64 bits, its code is past a byte, it lacks a code where an earlier bank has one,
 // or it has one where an earlier bank has none.
-#[derive(Drop)]
+#[derive(Clone, Copy)]
 pub enum Fault {
     NotABank,
     NeedPast,
@@ -19,7 +19,7 @@ pub enum Fault {
 }
 
 // How many banks are kept, with needs alone or with proposed codes, or the first wrong line, counted from 1.
-#[derive(Drop)]
+#[derive(Clone, Copy)]
 pub enum Found {
     Needs(usize),
     Proposals(usize),
@@ -38,7 +38,7 @@ pub struct Listed {
 }
 
 // What a byte is looked at for.
-#[derive(Drop)]
+#[derive(Clone, Copy)]
 enum Class {
     Digit,
     Blank,
@@ -47,7 +47,7 @@ enum Class {
 }
 
 // A number of 64 bits, or one past them.
-#[derive(Drop)]
+#[derive(Clone, Copy)]
 enum Number {
     Is(u64),
     Past,
@@ -287,6 +287,7 @@ fn with_need(l: Listed, line: usize, need: u64) -> Listed
 }
 
 // What is found with one proposal more, on this line.
+#[tactic(auto, using(crate::proofs::States::proposal_steps))]
 fn with_proposal(l: Listed, line: usize, need: u64, code: u8) -> Listed
     ensures { (p : Parsed) → Paired p → l ≡ listed p → result ≡ listed (after_line p line (Line.Proposal need code)) }
 {

@@ -25,3 +25,6 @@ module _ (ks : List ℕ) (n c name : ℕ) (e : name ≡ name_of c) where
       ∙ take-suc-set ks n k h
       ∙ ap (λ (x : ℕ). take n ks ++ (x ∷ [])) f
       ∙ sym (ap (λ (b : Bool). take n ks ++ cond b (key_of c ∷ []) []) yes)
+
+-- what the check tries at the goals of `put_key`
+pub ruleset key_steps = (keys-pass, keys-next)

@@ -49,6 +49,7 @@ fn key_of(code: u8) -> u64
 }
 
 // Puts the key of a code behind the `count` that stand there if the code has a name, and tells how many there are then.
+#[tactic(auto, using(crate::proofs::Keys::key_steps))]
 fn put_key(keys: &mut [u64], count: usize, code: u8, name: u16) -> usize
     requires { (count < length keys.old) × (name ≡ name_of code) }
     ensures keys_after { take result keys.new ≡ take count keys.old ++ cond (is_named code) (key_of code ∷ []) [] }
@@ -76,6 +77,7 @@ fn put_keys(keys: &mut [u64]) -> usize
     count
 }
 
+#[tactic(auto, unfolding(crate::specs::Keys::better))]
 fn better(best: u64, key: u64, limit: u64) -> u64
     ensures { result ≡ better limit best key }
 {
@@ -99,6 +101,7 @@ fn greatest(keys: &[u64], limit: u64) -> u64
 }
 
 // The greatest key that a width of at least the need can have.
+#[tactic(auto, unfolding(crate::specs::Keys::limit_of))]
 fn limit_of(need: u64) -> u64
     ensures { result ≡ limit_of need }
 {
@@ -169,6 +172,7 @@ fn put_codes(keys: &[u64], needs: &[u64], codes: &mut [u8]) -> Answer
 // ---- lists
 
 // Whether there are 1 to 32 banks, and as many in the other list.
+#[tactic(auto, unfolding(crate::specs::Lists::lengths_right))]
 fn lengths_right(n: usize, m: usize) -> bool
     ensures { result ≡ lengths_right n m }
 {

@@ -81,6 +81,7 @@ sound-slots (f ∷ fs) t =
   where
     absent : (t : Bool) → T (not t) → t ≡ false
     absent false u = refl
+    absent true u = elim u [ ]
 
 forms-slots : (fs : List (List ℕ)) → in_both (λ j. listed j (slots_in fs)) ≡ false → OneForm fs
 unfolding single

@@ -56,8 +56,8 @@ sorts =
     -- 16 bitrate, pulse_shape, rx_bw, fdev
     ∷ (number ∷ code of.pulse_shape ∷ code of.rx_bw ∷ number ∷ [])
     -- 17 pbl_len_tx, pbl_len_detect, pbl_long, pld_len_unit, addr_comp, fsk_pkt_format, pld_len, crc, dc_free
-    ∷ (number ∷ code of.pbl_len_detect ∷ code of.yes_or_no ∷ code of.pld_len_unit ∷ code of.addr_comp ∷ code of.fsk_pkt_format ∷ number ∷ code of.crc ∷ code of.yes_or_no
-    ∷ [])
+    ∷ (number ∷ code of.pbl_len_detect ∷ code of.yes_or_no ∷ code of.pld_len_unit ∷ code of.addr_comp ∷ code of.fsk_pkt_format ∷ number ∷ code of.crc
+    ∷ code of.yes_or_no ∷ [])
     -- 18 whiten_type, init
     ∷ (code of.whiten_type ∷ number ∷ [])
     -- 19 polynom, init

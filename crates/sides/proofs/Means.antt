@@ -225,6 +225,7 @@ slot-covered s a = is_true (covered kinds 1 s) (below_at (covered kinds 1) setti
   where
     is_true : (x : Bool) → T x → x ≡ true
     is_true true e = refl
+    is_true false e = elim e [ ]
 
 taken_not : (q : ℕ → Bool) (n k s : ℕ) → q s ≡ false → taken q n k s ≡ false
 unfolding taken

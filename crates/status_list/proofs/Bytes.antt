@@ -74,3 +74,6 @@ module _ (b : ℕ) where
   digit-last h =
       none (between-above 48 57 b (omega arith) (omega arith)) (between-above 65 70 b (omega arith) (omega arith))
       (between-above 97 102 b (omega arith) (omega arith))
+
+-- what the check tries at the goals of `digit`
+pub ruleset digit_cases = (digit-decimal, digit-upper, digit-lower, digit-first, digit-second, digit-third, digit-last)

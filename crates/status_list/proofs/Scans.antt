@@ -87,6 +87,9 @@ module _ (w : List ℕ) (i : ℕ) (e : all_digits w ≡ all_digits (drop i w)) w
   unfolding all_digits
   digits-end h = e ∙ rw (drop_of_length-le w h)
 
+-- what the check tries at the goals of `all_digits`
+pub ruleset digit_steps = (digits-pass, digits-stop, digits-end)
+
 -- ---- newlines
 
 pub newlines-le : (s : List ℕ) → newlines_in s ≤ length s

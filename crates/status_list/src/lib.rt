@@ -18,6 +18,7 @@ pub enum Found {
 // ---- bytes
 
 // White space.
+#[tactic(auto, unfolding(crate::specs::Words::is_blank, crate::specs::Words::between))]
 pub fn is_blank(b: u8) -> bool
     ensures { result ≡ is_blank b }
 {
@@ -31,6 +32,7 @@ pub fn is_blank(b: u8) -> bool
 }
 
 // Whether a byte stands in a comment, by whether the one before it does.
+#[tactic(auto, unfolding(crate::specs::Words::in_comment))]
 fn in_comment(c: bool, before: u8, b: u8) -> bool
     ensures { result ≡ in_comment c before b }
 {
@@ -47,6 +49,7 @@ fn in_comment(c: bool, before: u8, b: u8) -> bool
 }
 
 // Whether a word begins at a byte.
+#[tactic(auto, unfolding(crate::specs::Words::begins))]
 fn word_begins(c: bool, before: u8, b: u8) -> bool
     ensures { result ≡ begins c before b }
 {
@@ -97,6 +100,7 @@ fn word_length(s: &[u8]) -> usize
 }
 
 // What a hex digit says; 16 for any other byte.
+#[tactic(auto, using(crate::proofs::Bytes::digit_cases))]
 fn digit(b: u8) -> u8
     ensures { result ≡ digit_of b }
 {
@@ -108,6 +112,7 @@ fn digit(b: u8) -> u8
     }
 }
 
+#[tactic(auto, using(crate::proofs::Scans::digit_steps))]
 fn all_digits(word: &[u8]) -> bool
     ensures { result ≡ all_digits word.now }
 {

@@ -29,7 +29,7 @@ module _ (c : ℕ) (h : c < 256) where
 
 value-append : (a : ℕ) (l m : List ℕ) → value_from a (l ++ m) ≡ value_from (value_from a l) m
 value-append a [] m = refl
-value-append a (x ∷ l) m = value-append _ l m
+value-append a (x ∷ l) m = value-append (10 * a + (x - 48)) l m
 
 -- a digit behind the number that those before it stand for
 digit-next : (v u w : ℕ) → w ≡ u → u ≡ v / 10 → 10 * w + (digit v - 48) ≡ v

@@ -19,6 +19,7 @@ last : (i : ℕ) → kinds - 1 ≤ i → held_of (row_at (kinds - 1)) ≡ held_o
 unfolding row_at
 last i h = let e : min i (kinds - 1) ≡ kinds - 1 = omega arith in sym (ap (λ (k : ℕ). held_of (get_or rows k [])) e)
 
+-- from commands.json: arms
 pub returns-in-0 : goal.returns-in-0
 unfolding held_of row_at first_word last_word big_end mask_of mask narrows_of narrow_of
 returns-in-0 c = is c.in-0.is
@@ -170,6 +171,8 @@ returns-in-36 c = is c.in-36.is
 pub returns-in-37 : goal.returns-in-37
 unfolding held_of row_at first_word last_word big_end mask_of mask narrows_of narrow_of
 returns-in-37 c = is c.in-37.is
+
+-- end: arms
 
 pub returns-in-38-to-max : goal.returns-in-38-to-max
 unfolding held_of row_at first_word last_word big_end mask_of mask narrows_of narrow_of

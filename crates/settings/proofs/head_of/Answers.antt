@@ -10,6 +10,7 @@ use Rattle.settings.proofs.head_of.Goals as goal
 is : {i k : ℕ} → i ≡ k → size_of k ≡ size_of i
 is e = sym (ap size_of e)
 
+-- from commands.json: arms
 pub returns-in-0 : goal.returns-in-0
 unfolding size_of lengths
 returns-in-0 c = is c.in-0.is
@@ -125,6 +126,8 @@ returns-in-27 c = is c.in-27.is
 pub returns-in-28 : goal.returns-in-28
 unfolding size_of lengths
 returns-in-28 c = is c.in-28.is
+
+-- end: arms
 
 pub returns-in_default : goal.returns-in_default
 unfolding size_of lengths

@@ -14,6 +14,7 @@ last : (i : ℕ) → kinds - 1 ≤ i → head_at (kinds - 1) ≡ head_at i
 unfolding head_at
 last i h = let e : min i (kinds - 1) ≡ kinds - 1 = omega arith in sym (ap head_for e)
 
+-- from commands.json: arms
 pub returns-in-0 : goal.returns-in-0
 unfolding head_at
 returns-in-0 c = is c.in-0.is
@@ -165,6 +166,8 @@ returns-in-36 c = is c.in-36.is
 pub returns-in-37 : goal.returns-in-37
 unfolding head_at
 returns-in-37 c = is c.in-37.is
+
+-- end: arms
 
 pub returns-in-38-to-max : goal.returns-in-38-to-max
 unfolding head_at

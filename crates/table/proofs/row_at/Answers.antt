@@ -15,6 +15,7 @@ last : (i : ℕ) → kinds - 1 ≤ i → row_at (kinds - 1) ≡ row_at i
 unfolding row_at
 last i h = let e : min i (kinds - 1) ≡ kinds - 1 = omega arith in sym (ap (λ (k : ℕ). get_or rows k []) e)
 
+-- from commands.json: arms
 pub returns-in-0 : goal.returns-in-0
 unfolding row_at
 returns-in-0 c = is c.in-0.is
@@ -166,6 +167,8 @@ returns-in-36 c = is c.in-36.is
 pub returns-in-37 : goal.returns-in-37
 unfolding row_at
 returns-in-37 c = is c.in-37.is
+
+-- end: arms
 
 pub returns-in-38-to-max : goal.returns-in-38-to-max
 unfolding row_at

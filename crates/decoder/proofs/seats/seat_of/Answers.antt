@@ -8,6 +8,7 @@ use Rattle.decoder.proofs.seats.seat_of.Goals as goal
 is : {o k : ℕ} → o ≡ k → seat_of k ≡ seat_of o
 is e = sym (ap seat_of e)
 
+-- from commands.json: arms
 pub returns-in-544 : goal.returns-in-544
 unfolding seat_from
 returns-in-544 c = is c.in-544.is
@@ -143,6 +144,8 @@ returns-in-538 c = is c.in-538.is
 pub returns-in-539 : goal.returns-in-539
 unfolding seat_from
 returns-in-539 c = is c.in-539.is
+
+-- end: arms
 
 pub returns-in_default : goal.returns-in_default
 unfolding seat_from

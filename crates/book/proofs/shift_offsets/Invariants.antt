@@ -1,0 +1,23 @@
+use mathlib.Core.Path.{ap, refl, sym, ◌∙◌, ◌≡◌}
+use mathlib.Core.List.{List}
+use Prim.Native.Nat.{ℕ, ◌*◌, ◌+◌, ◌-◌, ◌<◌, ◌≤◌}
+use native.Mathlib.Nat.{le_refl}
+use native.Mathlib.Omega.{arith}
+use borrow.Author.Rules.{rules}
+use lib.ListN.{length}
+use Rattle.spans.specs.Spans.{set_word}
+use Rattle.spans.proofs.Spans.{stored-fits}
+use Rattle.contents.specs.Contents.{longest, offset_at}
+use Rattle.contents.proofs.Loops.{less_zero}
+use Rattle.book.proofs.Parts.{offset-others, remap-end, remap-step}
+use Rattle.book.specs.Edits.{remap, shifted_at}
+use Rattle.book.proofs.shift_offsets.Given as goal
+
+-- the offsets still to come are bounded as all were
+abbrev pub invariant-loop-s : goal.invariant-loop-s
+invariant-loop-s l =
+    (l.s ≤ l.slots) × (length l.b ≡ length l.initial.b) × (remap (shifted_at l.at l.old l.new) l.slots l.initial.b 0 ≡ remap (shifted_at l.at l.old l.new) (l.slots - l.s) l.b l.s)
+    × ((j : ℕ) → l.s ≤ j → j < l.slots → offset_at l.b j ≤ longest)
+
+abbrev pub decreases-loop-s : goal.decreases-loop-s
+decreases-loop-s l = l.slots - l.s

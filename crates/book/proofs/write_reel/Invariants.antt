@@ -1,0 +1,20 @@
+use mathlib.Core.Path.{ap, refl, subst, sym, ◌∙◌, ◌≡◌}
+use mathlib.Core.List.{List}
+use Prim.Native.Nat.{ℕ, ◌+◌, ◌-◌, ◌≤◌}
+use native.Mathlib.Omega.{arith}
+use borrow.Author.Rules.{rules}
+use lib.ListN.{length}
+use Rattle.settings.specs.Settings.{size_of}
+use Rattle.contents.specs.Contents.{start}
+use Rattle.contents.proofs.Loops.{less_zero}
+use Rattle.book.specs.Edits.{Tiles, reel_from}
+use Rattle.book.proofs.Telling.{reel_from-end, reel_from-step, tiles-step}
+use Rattle.book.proofs.write_reel.Given as goal
+
+abbrev pub invariant-loop-i : goal.invariant-loop-i
+invariant-loop-i l =
+    (l.i ≤ l.c) × (l.p ≤ l.e) × (length l.out ≡ length l.initial.out) × (l.w + (l.e - l.p) + (l.c - l.i) ≤ length l.initial.out) × (reel_from l.slots l.c l.b (start l.slots)
+    l.e 0 l.initial.out ≡ reel_from l.slots (l.c - l.i) l.b l.p l.e l.w l.out) × Tiles l.slots (l.c - l.i) l.b l.p l.e
+
+abbrev pub decreases-loop-i : goal.decreases-loop-i
+decreases-loop-i l = l.c - l.i

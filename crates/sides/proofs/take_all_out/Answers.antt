@@ -1,0 +1,26 @@
+use mathlib.Core.List.{List}
+use mathlib.Core.Path.{ap, refl, sym, ◌∙◌, ◌≡◌}
+use Prim.Native.Nat.{ℕ, ◌+◌, ◌-◌, ◌≤◌}
+use native.Mathlib.Omega.{arith}
+use borrow.Author.Rules.{rules}
+use lib.ListN.{length}
+use Rattle.table.specs.Table.{kinds}
+use Rattle.owners.specs.Owners.{owns}
+use Rattle.sides.specs.Means.{emptied_bytes}
+use Rattle.sides.proofs.Calling.{emptied-end, emptied-on}
+use Rattle.sides.proofs.take_all_out.Goals as goal
+
+pub loop-k-preserved : goal.loop-k-preserved
+loop-k-preserved c =
+    let l = c.loop-k in
+    let a = c.args in (
+      omega arith,
+      c.take_out.auto.book ∙ l.invariant.1,
+      l.invariant.2
+          ∙ emptied-on (owns a.owners.now a.side) l.k l.book c.loop-k-test.true
+          ∙ ap (λ (x : List ℕ). emptied_bytes (owns a.owners.now a.side) (kinds + 1 - (l.k + 1)) (l.k + 1) x)
+          (sym c.take_out.ensures),
+    )
+
+pub returns : goal.returns
+returns c = sym (c.loop-k.invariant.2 ∙ emptied-end _ _ _ c.loop-k-test.false)

@@ -1,0 +1,19 @@
+use mathlib.Core.List.{List}
+use mathlib.Core.Path.{ap, refl, sym, ◌∙◌, ◌≡◌}
+use Prim.Native.Nat.{ℕ, ◌+◌, ◌-◌, ◌≤◌}
+use native.Mathlib.Omega.{arith}
+use borrow.Author.Rules.{rules}
+use lib.ListN.{length}
+use Rattle.table.specs.Table.{kinds}
+use Rattle.owners.specs.Owners.{owns}
+use Rattle.sides.specs.Means.{emptied_bytes}
+use Rattle.sides.proofs.Calling.{emptied-end, emptied-on}
+use Rattle.sides.proofs.take_all_out.Given as goal
+
+abbrev pub invariant-loop-k : goal.invariant-loop-k
+invariant-loop-k l =
+    (l.k ≤ kinds + 1) × (length l.book ≡ length l.initial.book)
+    × (emptied_bytes (owns l.owners l.side) kinds 1 l.initial.book ≡ emptied_bytes (owns l.owners l.side) (kinds + 1 - l.k) l.k l.book)
+
+abbrev pub decreases-loop-k : goal.decreases-loop-k
+decreases-loop-k l = kinds + 1 - l.k

@@ -1,0 +1,12 @@
+use Prim.Native.Nat.{ℕ, ◌≤◌}
+use native.Mathlib.Omega.{arith}
+use borrow.Author.Rules.{rules}
+use lib.ListN.{length, length-replicate}
+use Rattle.book.specs.Book.{longest_reel}
+use Rattle.sides.proofs.Picking.{give-done, give-short}
+use Rattle.sides.proofs.tell_part.Goals as goal
+
+pub returns-then-n-out : goal.returns-then-n-out
+returns-then-n-out c =
+    let fits : c.pick-n.result ≤ length c.pick-n.new.out = omega (arith, c.pick-n.ensures.1, c.requires, c.pick-n.auto.out, length-replicate {A = ℕ} longest_reel 0) in
+    give-done _ _ _ _ c.pick-n.ensures.0 fits _ c.if-n-out.true c.write.ensures
