@@ -6,7 +6,7 @@
 --     reads-leave        an ask and a replay leave the bytes, accepted or refused
 -- Assumes nothing.
 use mathlib.Core.Path.{ap, refl, subst, sym, ◌∙◌, ◌≡◌}
-use mathlib.Core.Bool.{false, false≢true, true}
+use mathlib.Core.Bool.{false≢true, true}
 use mathlib.Core.List.{List, []}
 use Prim.Native.Nat.{ℕ}
 use native.Mathlib.Omega.{arith}

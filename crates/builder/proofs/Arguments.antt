@@ -13,8 +13,7 @@ use Rattle.frame.specs.Field.{part, sound}
 use Rattle.frame.specs.Layout.{bytes, tab, put, puts}
 use Rattle.frame.proofs.Fields.{length-tab}
 use Rattle.table.specs.Table.{count_of, numbers_of}
-use Rattle.table.proofs.Cells.{length-numbers, numbers_more, numbers-past}
-use Rattle.builder.specs.declared.Misfit.{Misfit}
+use Rattle.table.proofs.Cells.{numbers_more, numbers-past}
 use Rattle.builder.specs.declared.Misfit.TheVariants.{None, At}
 use Rattle.builder.specs.declared.Way.{Way}
 use Rattle.builder.specs.Building.{first_misfit}

@@ -1,6 +1,6 @@
 -- What the returns of the builders ask: each branch gives the specification's answer. Assumes nothing.
 use mathlib.Core.Path.{◌≡◌, refl, sym, ap, ap₂, ◌∙◌, subst}
-use mathlib.Core.Bool.{Bool, ◌&&◌}
+use mathlib.Core.Bool.{Bool}
 use mathlib.Core.List.{List, [], ◌∷◌, ◌++◌}
 use Prim.Native.Nat.{ℕ, ◌-◌, ◌≤◌, ◌<◌}
 use native.Mathlib.Omega.{arith}
@@ -13,7 +13,7 @@ use Rattle.frame.proofs.Fields.{length-tab}
 use Rattle.table.specs.Number.{narrows_of, plains_of}
 use Rattle.table.specs.Table.{kinds, rows, op_of, len_of, count_of, numbers_of, row_at, row_of, op_number}
 use Rattle.table.proofs.Cells.{length-numbers}
-use Rattle.table.proofs.Rows.{Laid, row_laid, row-at, ready, plain-is}
+use Rattle.table.proofs.Rows.{row_laid, row-at, ready, plain-is}
 use Rattle.refusal.specs.declared.Refusal.TheVariants.{ArgumentOutside, NotAKind}
 use Rattle.builder.specs.declared.Misfit.{Misfit}
 use Rattle.builder.specs.declared.Misfit.TheVariants.{None, At}

@@ -11,7 +11,7 @@ use Rattle.refusal.specs.declared.Refusal.TheVariants.{ArgumentOutside, NotAKind
 use Rattle.codes.specs.Allowed.{allows, accepts}
 use Rattle.builder.specs.declared.Misfit.{Misfit}
 use Rattle.builder.specs.declared.Misfit.TheVariants.{None, At}
-use Rattle.builder.specs.Building.{Making, makes, refuses, first_misfit, unless, builds, checked, plain_by}
+use Rattle.builder.specs.Building.{makes, refuses, first_misfit, unless, builds, checked, plain_by}
 
 -- each argument passes the test of its cell, and there are as many as cells
 abbrev pub Taken : (ℕ → ℕ → Bool) → List ℕ → List ℕ → Type 0

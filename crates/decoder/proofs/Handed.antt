@@ -1,7 +1,6 @@
 -- What a caller of `decode` learns from the record that it hands over: the answer of the specification, without the zeros behind it.
 -- Assumes nothing.
 use mathlib.Core.Path.{◌≡◌, refl, sym, ap, ap₂, ◌∙◌}
-use mathlib.Core.List.{List}
 use Prim.Native.Nat.{ℕ, ◌-◌}
 use lib.ListN.{length, take, replicate}
 use lib.Seq.{take_at}

@@ -1,6 +1,5 @@
 -- What the returns of the decoder ask: each branch gives the specification's answer. Assumes nothing.
 use mathlib.Core.Path.{◌≡◌, refl, sym, ap, ap₂, ◌∙◌, subst}
-use mathlib.Core.Logic.{⊎_elim}
 use mathlib.Core.Bool.{Bool, true, false, cond}
 use mathlib.Core.List.{List, [], ◌++◌}
 use Prim.Native.Nat.{ℕ, ◌+◌, ◌-◌, ◌≤◌, ◌<◌}
@@ -11,7 +10,6 @@ use lib.Dec.{ltb}
 use lib.ListN.{length, get_or, take, replicate}
 use lib.Seq.{take_at}
 use Rattle.frame.specs.Layout.{bytes}
-use Rattle.frame.proofs.OneField.{le-or-lt}
 use Rattle.table.specs.Table.{kinds, rows, row_at, op_of, len_of, count_of, numbers_of}
 use Rattle.table.specs.Laid.{find}
 use Rattle.table.specs.Narrowed.{opcode, arguments_in, Ready}

@@ -2,19 +2,19 @@
 -- Assumes nothing.
 use mathlib.Core.Path.{◌≡◌, refl, sym, ap, ap₂, ◌∙◌, subst}
 use mathlib.Core.Logic.{⊎_elim}
-use mathlib.Core.Bool.{Bool, true, false, cond}
+use mathlib.Core.Bool.{Bool, cond}
 use mathlib.Core.List.{List}
-use Prim.Native.Nat.{ℕ, suc, ◌+◌, ◌-◌, ◌*◌, ◌/◌, ◌%◌, ◌^◌, ◌≤◌, ◌<◌, min}
+use Prim.Native.Nat.{ℕ, suc, ◌+◌, ◌*◌, ◌/◌, ◌%◌, ◌^◌, ◌≤◌, ◌<◌}
 use native.Mathlib.Nat.{mod-lt, mod-eq_of_lt, one-mul, lt_trans, lt_of_lt_of_le, lt_of_le_of_lt, le-add_left, le_refl, ne_of_lt, ne_of_gt, eq-or-lt_of_le, le_of_suc-le-suc}
 use native.Mathlib.Numerals.{add-one}
 use native.Mathlib.Omega.{arith}
 use lib.Pow.{pow_pos, pow_mono, shl_lt}
 use lib.Bits.{bit_or, or_zero_r}
-use lib.Dec.{T, lit<}
+use lib.Dec.{lit<}
 use lib.ListN.{length, get_or, set, length-set}
 use lib.Seq.{get_or-set_same, get_or-set_other}
 use Rattle.frame.specs.declared.Field.{Field}
-use Rattle.frame.specs.Field.{size, rank, place, bits, part, read_to, sound, Sound}
+use Rattle.frame.specs.Field.{size, rank, place, bits, part, read_to, Sound}
 use Rattle.frame.specs.Layout.{bytes, tab, put}
 use Rattle.frame.proofs.OneField.{le-or-lt, rank_lt, part_in, part_low, part-high, top, read_to-lt}
 use Rattle.frame.proofs.Fields.{is-tab, sound-holds}

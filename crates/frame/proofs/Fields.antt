@@ -14,7 +14,7 @@ use lib.Dec.{T, leb, ltb, eqb, leb→le, ltb→lt, lt→ltb, eqb→eq}
 use lib.ListN.{length, get_or, take}
 use lib.Seq.{ext_get_or, get_or-take, length-take-le}
 use Rattle.frame.specs.declared.Field.{Field}
-use Rattle.frame.specs.Field.{size, rank, place, bits, part, mask, digit, read_to, read, sound, Sound}
+use Rattle.frame.specs.Field.{size, rank, place, bits, part, mask, digit, read, sound, Sound}
 use Rattle.frame.specs.Layout.{byte_of, mask_of, reads, cut, fitting, sound_all, apart, apart_all, disjoint, layout, bytes, tab, tab_from}
 use Rattle.frame.proofs.Bits.{and-or}
 use Rattle.frame.proofs.OneField.{le-or-lt, rank_lt, part_in, part_low, part-high, read-lt, place-high, read_to-ext, read-own, read-other, clear-more, part-read}

@@ -5,7 +5,7 @@
 -- 2.7-4 is first 2, lo 4, w 4; 5-7 is first 5, lo 0, w 24; the low 12 bits of 2-3 are first 2, lo 0, w 12.
 -- Lists of fields are in specs/Layout.antt.
 -- Assumes nothing.
-use Rattle.std.specs.Prelude.{ℕ, zero, suc, ◌+◌, ◌-◌, ◌*◌, ◌/◌, ◌%◌, ◌^◌, ◌≤◌, min, Bool, true, false, cond, ◌&&◌, leb, ltb}
+use Rattle.std.specs.Prelude.{ℕ, zero, suc, ◌+◌, ◌-◌, ◌*◌, ◌/◌, ◌%◌, ◌^◌, ◌≤◌, min, Bool, cond, ◌&&◌, leb, ltb}
 use Rattle.frame.specs.declared.Field.{Field}
 
 -- how many bytes it takes

@@ -1,6 +1,6 @@
 -- What every row of the table keeps to, as tests that are computed over all of them, and the search for a row.
 -- Assumes nothing.
-use Rattle.std.specs.Prelude.{ℕ, suc, Bool, true, false, cond, ◌&&◌, List, [], ◌∷◌, eqb, leb}
+use Rattle.std.specs.Prelude.{ℕ, suc, Bool, cond, ◌&&◌, List, [], ◌∷◌, eqb, leb}
 use Rattle.frame.specs.Layout.{sound_all, layout}
 use Rattle.table.specs.Number.{narrows_of, plains_of}
 use Rattle.table.specs.Table.{action, settings, rows, op_of, len_of, slot_of, count_of, numbers_of, op_number}

@@ -1,5 +1,4 @@
 use mathlib.Core.Path.{ap, sym, ◌∙◌}
-use borrow.Author.Rules.{rules}
 use Rattle.filling.proofs.Filling.{blanked-image}
 use Rattle.book.specs.Book.{Edit, ours, verdict}
 use Rattle.book.proofs.Calls.{Holds, clear-done, holds-reads, opened-holds, permits}

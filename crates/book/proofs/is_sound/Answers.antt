@@ -1,5 +1,4 @@
 use mathlib.Core.Path.{sym, ◌∙◌}
-use borrow.Author.Rules.{rules}
 use Rattle.contents.specs.Contents.{layout}
 use Rattle.book.proofs.Calls.{ready-both, ready-one, ready_refused}
 use Rattle.book.proofs.is_sound.Goals as goal

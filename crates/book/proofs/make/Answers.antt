@@ -1,6 +1,5 @@
 use mathlib.Core.Path.{◌∙◌}
 use native.Mathlib.Omega.{arith}
-use borrow.Author.Rules.{rules}
 use Rattle.filling.proofs.Filling.{blanked-image}
 use Rattle.book.specs.Book.{ours}
 use Rattle.book.proofs.Calls.{make-fits, make-long, make-short}

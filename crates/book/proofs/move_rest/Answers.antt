@@ -1,6 +1,5 @@
 use mathlib.Core.Path.{refl}
 use native.Mathlib.Omega.{arith}
-use borrow.Author.Rules.{rules}
 use Rattle.book.proofs.Refitting.{moved_down, moved_up}
 use Rattle.book.proofs.move_rest.Goals as goal
 

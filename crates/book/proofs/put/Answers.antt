@@ -1,6 +1,5 @@
 use mathlib.Core.Path.{ap, sym, ◌∙◌, ◌≡◌}
 use native.Mathlib.Omega.{arith}
-use borrow.Author.Rules.{rules}
 use Rattle.book.specs.declared.Answer.TheVariants.{Done}
 use Rattle.settings.specs.Settings.{slot_of}
 use Rattle.settings.proofs.Settings.{lacks-kind, lacks-own, slot_of-kind, slot_of-none}

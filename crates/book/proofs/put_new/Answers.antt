@@ -1,7 +1,6 @@
 use mathlib.Core.Path.{ap, ◌∙◌}
 use Prim.Native.Nat.{ℕ}
 use native.Mathlib.Omega.{arith}
-use borrow.Author.Rules.{rules}
 use Rattle.contents.proofs.Judged.{Bytes}
 use Rattle.forms.proofs.Forms.{other-low}
 use Rattle.book.specs.Book.{ours}

@@ -1,6 +1,4 @@
-use mathlib.Core.Path.{sym, ◌∙◌}
 use native.Mathlib.Omega.{arith}
-use borrow.Author.Rules.{rules}
 use Rattle.contents.proofs.Judged.{Bytes}
 use Rattle.book.specs.Book.{ours}
 use Rattle.book.proofs.Putting.{put-over}

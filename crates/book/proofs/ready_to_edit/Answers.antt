@@ -1,4 +1,3 @@
-use borrow.Author.Rules.{rules}
 use Rattle.book.specs.Book.{layout_in, opened_for}
 use Rattle.book.proofs.ready_to_edit.Goals as goal
 

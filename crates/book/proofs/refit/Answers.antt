@@ -1,5 +1,4 @@
 use native.Mathlib.Omega.{arith}
-use borrow.Author.Rules.{rules}
 use Rattle.book.proofs.Refitting.{refitted-is}
 use Rattle.book.proofs.refit.Goals as goal
 

@@ -1,7 +1,6 @@
 use mathlib.Core.Path.{ap, sym, ◌∙◌}
 use Prim.Native.Nat.{ℕ}
 use native.Mathlib.Omega.{arith}
-use borrow.Author.Rules.{rules}
 use Rattle.contents.proofs.Judged.{Bytes}
 use Rattle.book.specs.Book.{Edit, ours, verdict}
 use Rattle.book.proofs.Known.{held-past, held-within, low-offsets}

@@ -1,7 +1,6 @@
 use mathlib.Core.Path.{ap, ap₂, sym, ◌∙◌}
-use Prim.Native.Nat.{ℕ, ◌-◌}
+use Prim.Native.Nat.{ℕ}
 use native.Mathlib.Omega.{arith}
-use borrow.Author.Rules.{rules}
 use Rattle.contents.specs.Contents.{frames_from, start}
 use Rattle.contents.proofs.Judged.{Bytes}
 use Rattle.book.specs.Book.{Read, layout_in, verdict}

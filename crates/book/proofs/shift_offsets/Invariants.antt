@@ -1,15 +1,7 @@
-use mathlib.Core.Path.{ap, refl, sym, ◌∙◌, ◌≡◌}
-use mathlib.Core.List.{List}
-use Prim.Native.Nat.{ℕ, ◌*◌, ◌+◌, ◌-◌, ◌<◌, ◌≤◌}
-use native.Mathlib.Nat.{le_refl}
-use native.Mathlib.Omega.{arith}
-use borrow.Author.Rules.{rules}
+use mathlib.Core.Path.{◌≡◌}
+use Prim.Native.Nat.{ℕ, ◌-◌, ◌<◌, ◌≤◌}
 use lib.ListN.{length}
-use Rattle.spans.specs.Spans.{set_word}
-use Rattle.spans.proofs.Spans.{stored-fits}
 use Rattle.contents.specs.Contents.{longest, offset_at}
-use Rattle.contents.proofs.Loops.{less_zero}
-use Rattle.book.proofs.Parts.{offset-others, remap-end, remap-step}
 use Rattle.book.specs.Edits.{remap, shifted_at}
 use Rattle.book.proofs.shift_offsets.Given as goal
 

@@ -1,5 +1,4 @@
 use native.Mathlib.Omega.{arith}
-use borrow.Author.Rules.{rules}
 use Rattle.book.proofs.Refitting.{shifted-after, shifted-gone, shifted-kept}
 use Rattle.book.proofs.shifted.Goals as goal
 

@@ -1,5 +1,4 @@
 use native.Mathlib.Omega.{arith}
-use borrow.Author.Rules.{rules}
 use Rattle.book.proofs.Swapping.{swapped-is}
 use Rattle.book.proofs.swap.Goals as goal
 

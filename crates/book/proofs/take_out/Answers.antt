@@ -1,5 +1,4 @@
 use Rattle.book.specs.Edits.{taken_out}
-use borrow.Author.Rules.{rules}
 use Rattle.book.proofs.take_out.Goals as goal
 
 pub returns : goal.returns

@@ -1,7 +1,6 @@
 use mathlib.Core.Path.{◌∙◌}
 use Prim.Native.Nat.{◌+◌}
 use native.Mathlib.Omega.{arith}
-use borrow.Author.Rules.{rules}
 use lib.ListN.{length-set, set}
 use Rattle.book.proofs.Telling.{part-put}
 use Rattle.book.proofs.write_frame.Goals as goal

@@ -1,13 +1,9 @@
-use mathlib.Core.Path.{ap, refl, subst, sym, ◌∙◌, ◌≡◌}
+use mathlib.Core.Path.{ap, sym, ◌∙◌}
 use mathlib.Core.List.{List}
-use Prim.Native.Nat.{ℕ, ◌+◌, ◌-◌, ◌≤◌}
+use Prim.Native.Nat.{ℕ, ◌+◌, ◌-◌}
 use native.Mathlib.Omega.{arith}
-use borrow.Author.Rules.{rules}
-use lib.ListN.{length}
 use Rattle.settings.specs.Settings.{size_of}
-use Rattle.contents.specs.Contents.{start}
-use Rattle.contents.proofs.Loops.{less_zero}
-use Rattle.book.specs.Edits.{Tiles, reel_from}
+use Rattle.book.specs.Edits.{reel_from}
 use Rattle.book.proofs.Telling.{reel_from-end, reel_from-step, tiles-step}
 use Rattle.book.proofs.write_reel.Goals as goal
 

@@ -1,5 +1,4 @@
 use mathlib.Core.Path.{ap, ◌∙◌}
-use borrow.Author.Rules.{rules}
 use Rattle.builder.specs.Building.{built}
 use Rattle.builder.specs.Ways.{takes_by, frame_by}
 use Rattle.builder.proofs.Returns.{builds-zero, builds-above, builds-kind}

@@ -1,4 +1,3 @@
-use borrow.Author.Rules.{rules}
 use Rattle.builder.specs.Ways.{takes_by, frame_by}
 use Rattle.builder.proofs.checked.Goals as goal
 

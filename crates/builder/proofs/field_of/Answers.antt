@@ -1,5 +1,4 @@
 use mathlib.Core.Path.{sym, ap, ◌∙◌}
-use borrow.Author.Rules.{rules}
 use Rattle.builder.specs.declared.Way.{Way}
 use Rattle.builder.specs.Ways.{field_by}
 use Rattle.builder.proofs.field_of.Goals as goal

@@ -1,12 +1,10 @@
 -- The loop's invariant: the arguments before the j-th fit. Assumes nothing.
-use Prim.Native.Nat.{ℕ, ◌+◌, ◌-◌, ◌≤◌}
+use Prim.Native.Nat.{ℕ, ◌+◌}
 use mathlib.Core.Path.{◌≡◌, sym, ap, ◌∙◌}
 use native.Mathlib.Omega.{arith}
 use borrow.Author.Rules.{rules}
-use lib.ListN.{length, drop}
-use Rattle.table.specs.Table.{count_of, numbers_of}
+use lib.ListN.{length}
 use Rattle.builder.specs.declared.Misfit.TheVariants.{At}
-use Rattle.builder.specs.Building.{first_misfit}
 use Rattle.builder.specs.Ways.{takes_by}
 use Rattle.builder.proofs.Arguments.{misfit-missing, misfit-bad, misfit-good, misfit-surplus, misfit-none}
 use Rattle.builder.proofs.first_misfit.Goals as goal

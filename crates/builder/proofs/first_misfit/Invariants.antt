@@ -1,14 +1,10 @@
 -- The loop's invariant: the arguments before the j-th fit. Assumes nothing.
-use Prim.Native.Nat.{ℕ, ◌+◌, ◌-◌, ◌≤◌}
-use mathlib.Core.Path.{◌≡◌, sym, ap, ◌∙◌}
-use native.Mathlib.Omega.{arith}
-use borrow.Author.Rules.{rules}
-use lib.ListN.{length, drop}
+use Prim.Native.Nat.{◌+◌, ◌-◌, ◌≤◌}
+use mathlib.Core.Path.{◌≡◌}
+use lib.ListN.{drop}
 use Rattle.table.specs.Table.{count_of, numbers_of}
-use Rattle.builder.specs.declared.Misfit.TheVariants.{At}
 use Rattle.builder.specs.Building.{first_misfit}
 use Rattle.builder.specs.Ways.{takes_by}
-use Rattle.builder.proofs.Arguments.{misfit-missing, misfit-bad, misfit-good, misfit-surplus, misfit-none}
 use Rattle.builder.proofs.first_misfit.Given as goal
 
 abbrev pub invariant-loop-j : goal.invariant-loop-j

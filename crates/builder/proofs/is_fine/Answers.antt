@@ -1,5 +1,4 @@
 use mathlib.Core.Path.{sym, ap, ◌∙◌}
-use borrow.Author.Rules.{rules}
 use Rattle.builder.specs.declared.Way.{Way}
 use Rattle.builder.specs.Ways.{takes_by}
 use Rattle.builder.proofs.is_fine.Goals as goal

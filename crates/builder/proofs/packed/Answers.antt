@@ -1,14 +1,14 @@
 -- The loop's invariant: what the whole list gives is what the fields from j on put into the bytes so far. Assumes nothing.
-use Prim.Native.Nat.{ℕ, ◌-◌, ◌≤◌}
+use Prim.Native.Nat.{ℕ}
 use mathlib.Core.Path.{◌≡◌, sym, ap, ◌∙◌}
-use mathlib.Core.List.{List, ◌∷◌}
+use mathlib.Core.List.{List}
 use native.Mathlib.Omega.{arith}
 use borrow.Author.Rules.{rules}
-use lib.ListN.{length, drop, replicate}
+use lib.ListN.{length, replicate}
 use Rattle.frame.specs.declared.Field.{Field}
 use Rattle.frame.specs.Layout.{put, puts}
-use Rattle.table.specs.Table.{count_of, numbers_of}
-use Rattle.builder.specs.Ways.{fields_by, row_by}
+use Rattle.table.specs.Table.{numbers_of}
+use Rattle.builder.specs.Ways.{fields_by}
 use Rattle.builder.proofs.Arguments.{length-put, packs-more, packs-end}
 use Rattle.builder.proofs.packed.Goals as goal
 

@@ -1,5 +1,4 @@
 use mathlib.Core.Path.{sym}
-use borrow.Author.Rules.{rules}
 use Rattle.table.specs.Codes.{lists}
 use Rattle.codes.proofs.Listed.{words, listed-is, listed-big, listed-past}
 use Rattle.codes.proofs.is_listed.Goals as goal

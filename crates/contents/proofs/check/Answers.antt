@@ -1,7 +1,6 @@
 use mathlib.Core.Path.{ap, ap₂, sym, ◌∙◌}
 use Prim.Native.Nat.{ℕ}
 use native.Mathlib.Omega.{arith}
-use borrow.Author.Rules.{rules}
 use Rattle.contents.specs.Contents.{frames_from, layout, start, verdict_of}
 use Rattle.contents.proofs.Loops.{judge-all, judge-count, judge-high, judge-long, judge-low, judge-many, judge-short, judge-tail, judge-version}
 use Rattle.contents.proofs.check.Goals as goal

@@ -1,5 +1,4 @@
 use native.Mathlib.Omega.{arith}
-use borrow.Author.Rules.{rules}
 use Rattle.contents.proofs.Loops.{len-long, len-other, len-yes, length_at-none}
 use Rattle.contents.proofs.len_at.Goals as goal
 

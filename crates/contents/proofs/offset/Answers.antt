@@ -1,6 +1,5 @@
 use mathlib.Core.Path.{sym}
 use native.Mathlib.Omega.{arith}
-use borrow.Author.Rules.{rules}
 use Rattle.contents.specs.Contents.{offset_at}
 use Rattle.contents.proofs.Loops.{offset-past}
 use Rattle.contents.proofs.offset.Goals as goal

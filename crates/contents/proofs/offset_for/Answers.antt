@@ -1,6 +1,5 @@
 use mathlib.Core.Path.{sym, ◌∙◌}
 use native.Mathlib.Omega.{arith}
-use borrow.Author.Rules.{rules}
 use Rattle.contents.proofs.Offsets.{offset-among, offset-outside}
 use Rattle.contents.proofs.offset_for.Goals as goal
 

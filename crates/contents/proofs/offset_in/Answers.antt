@@ -1,5 +1,4 @@
 use native.Mathlib.Omega.{arith}
-use borrow.Author.Rules.{rules}
 use Rattle.contents.specs.Contents.{offset_at, word_at}
 use Rattle.contents.proofs.offset_in.Goals as goal
 

@@ -1,9 +1,6 @@
-use mathlib.Core.Path.{ap, sym, ◌∙◌, ◌≡◌}
-use Prim.Native.Nat.{ℕ, ◌+◌, ◌-◌, ◌≤◌}
+use mathlib.Core.Path.{sym, ◌∙◌}
 use native.Mathlib.Omega.{arith}
-use borrow.Author.Rules.{rules}
-use Rattle.contents.specs.Contents.{present_from}
-use Rattle.contents.proofs.Loops.{less_zero, present_from-end, present_from-none, present_from-some, zero-plus}
+use Rattle.contents.proofs.Loops.{present_from-end, present_from-none, present_from-some}
 use Rattle.contents.proofs.present.Goals as goal
 use Rattle.contents.proofs.present.Goals.{then-offset_in-ne0, else-offset_in-ne0}
 

@@ -1,10 +1,6 @@
-use mathlib.Core.Path.{ap, sym, ◌∙◌, ◌≡◌}
-use mathlib.Core.Logic.{⊎_elim}
-use Prim.Native.Nat.{ℕ, ◌+◌, ◌-◌, ◌≤◌}
-use native.Mathlib.Omega.{arith}
-use borrow.Author.Rules.{rules}
+use mathlib.Core.Path.{◌≡◌}
+use Prim.Native.Nat.{◌+◌, ◌-◌, ◌≤◌}
 use Rattle.contents.specs.Contents.{present_from}
-use Rattle.contents.proofs.Loops.{less_zero, present_from-end, present_from-none, present_from-some, zero-plus}
 use Rattle.contents.proofs.present.Given as goal
 
 abbrev pub invariant-loop-s : goal.invariant-loop-s

@@ -1,6 +1,5 @@
 use mathlib.Core.Path.{sym, ◌∙◌}
 use native.Mathlib.Omega.{arith}
-use borrow.Author.Rules.{rules}
 use Rattle.contents.proofs.Loops.{slot-fits, slot-short}
 use Rattle.contents.proofs.slot_at.Goals as goal
 

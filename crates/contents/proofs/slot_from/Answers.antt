@@ -1,9 +1,8 @@
-use mathlib.Core.Path.{ap, sym, ◌∙◌, ◌≡◌}
-use Prim.Native.Nat.{ℕ, ◌*◌, ◌+◌, ◌-◌, ◌≤◌}
+use mathlib.Core.Path.{sym, ◌∙◌, ◌≡◌}
+use Prim.Native.Nat.{◌*◌, ◌+◌}
 use native.Mathlib.Omega.{arith}
-use borrow.Author.Rules.{rules}
-use Rattle.contents.specs.Contents.{offset_at, slot_from}
-use Rattle.contents.proofs.Loops.{less_zero, offset-low, slot_from-end, slot_from-found, slot_from-pass}
+use Rattle.contents.specs.Contents.{offset_at}
+use Rattle.contents.proofs.Loops.{offset-low, slot_from-end, slot_from-found, slot_from-pass}
 use Rattle.contents.proofs.slot_from.Goals as goal
 use Rattle.contents.proofs.slot_from.Goals.{then-b-s+else-offset_in-p, else-b-s}
 

@@ -1,10 +1,6 @@
-use mathlib.Core.Path.{ap, sym, ◌∙◌, ◌≡◌}
-use mathlib.Core.Logic.{⊎_elim}
-use Prim.Native.Nat.{ℕ, ◌*◌, ◌+◌, ◌-◌, ◌≤◌}
-use native.Mathlib.Omega.{arith}
-use borrow.Author.Rules.{rules}
-use Rattle.contents.specs.Contents.{offset_at, slot_from}
-use Rattle.contents.proofs.Loops.{less_zero, offset-low, slot_from-end, slot_from-found, slot_from-pass}
+use mathlib.Core.Path.{◌≡◌}
+use Prim.Native.Nat.{◌-◌, ◌≤◌}
+use Rattle.contents.specs.Contents.{slot_from}
 use Rattle.contents.proofs.slot_from.Given as goal
 
 abbrev pub invariant-loop-s : goal.invariant-loop-s

@@ -1,11 +1,5 @@
-use mathlib.Core.Path.{refl, sym, ◌∙◌, ◌≡◌}
-use mathlib.Core.Bool.{cond, false}
-use Prim.Native.Nat.{◌-◌, ◌≤◌}
+use mathlib.Core.Path.{sym, ◌∙◌}
 use native.Mathlib.Omega.{arith}
-use borrow.Author.Rules.{rules}
-use lib.Dec.{eqb}
-use lib.ListN.{drop, length}
-use Rattle.contents.specs.Contents.{all_zero}
 use Rattle.contents.proofs.Loops.{all_zero-end, all_zero-join}
 use Rattle.contents.proofs.tail_zero.Goals as goal
 

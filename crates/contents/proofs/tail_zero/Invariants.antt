@@ -1,12 +1,9 @@
-use mathlib.Core.Path.{refl, sym, ◌∙◌, ◌≡◌}
+use mathlib.Core.Path.{◌≡◌}
 use mathlib.Core.Bool.{cond, false}
 use Prim.Native.Nat.{◌-◌, ◌≤◌}
-use native.Mathlib.Omega.{arith}
-use borrow.Author.Rules.{rules}
 use lib.Dec.{eqb}
 use lib.ListN.{drop, length}
 use Rattle.contents.specs.Contents.{all_zero}
-use Rattle.contents.proofs.Loops.{all_zero-end, all_zero-join}
 use Rattle.contents.proofs.tail_zero.Given as goal
 
 abbrev pub invariant-loop-i : goal.invariant-loop-i

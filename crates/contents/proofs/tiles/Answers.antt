@@ -1,10 +1,7 @@
-use mathlib.Core.Path.{sym, ◌∙◌, ◌≡◌}
-use Prim.Native.Nat.{◌-◌, ◌≤◌}
+use mathlib.Core.Path.{sym, ◌∙◌}
 use native.Mathlib.Omega.{arith}
-use borrow.Author.Rules.{rules}
 use borrow.Author.Tests.{eq-eqb, ne_eqb}
-use Rattle.contents.specs.Contents.{frames_from, start, verdict_of}
-use Rattle.contents.proofs.Loops.{frames_from-end, frames_from-pass, frames_from-stop, less_zero}
+use Rattle.contents.proofs.Loops.{frames_from-end, frames_from-pass, frames_from-stop}
 use Rattle.contents.proofs.tiles.Goals as goal
 
 pub returns-then-n-eq0 : goal.returns-then-n-eq0

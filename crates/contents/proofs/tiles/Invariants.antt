@@ -1,10 +1,6 @@
-use mathlib.Core.Path.{sym, ◌∙◌, ◌≡◌}
+use mathlib.Core.Path.{◌≡◌}
 use Prim.Native.Nat.{◌-◌, ◌≤◌}
-use native.Mathlib.Omega.{arith}
-use borrow.Author.Rules.{rules}
-use borrow.Author.Tests.{eq-eqb, ne_eqb}
 use Rattle.contents.specs.Contents.{frames_from, start, verdict_of}
-use Rattle.contents.proofs.Loops.{frames_from-end, frames_from-pass, frames_from-stop, less_zero}
 use Rattle.contents.proofs.tiles.Given as goal
 
 abbrev pub invariant-loop-i : goal.invariant-loop-i

@@ -1,6 +1,5 @@
 use mathlib.Core.Path.{sym}
 use native.Mathlib.Omega.{arith}
-use borrow.Author.Rules.{rules}
 use Rattle.contents.specs.Contents.{word_at}
 use Rattle.contents.proofs.Loops.{word-past}
 use Rattle.contents.proofs.word.Goals as goal

@@ -1,5 +1,4 @@
 use mathlib.Core.Path.{refl}
-use borrow.Author.Rules.{rules}
 use Rattle.day.specs.Days.{missed}
 use Rattle.day.proofs.miss.Goals as goal
 

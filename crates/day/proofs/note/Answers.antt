@@ -1,5 +1,4 @@
 use mathlib.Core.Path.{refl}
-use borrow.Author.Rules.{rules}
 use Rattle.day.specs.Days.{noted}
 use Rattle.day.proofs.note.Goals as goal
 

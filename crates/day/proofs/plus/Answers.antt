@@ -1,6 +1,5 @@
 use mathlib.Core.Path.{sym}
 use native.Mathlib.Omega.{arith}
-use borrow.Author.Rules.{rules}
 use Rattle.day.proofs.Days.{plus-fits, plus-stays}
 use Rattle.day.proofs.plus.Goals as goal
 

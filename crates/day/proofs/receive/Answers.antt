@@ -1,5 +1,4 @@
 use native.Mathlib.Omega.{arith}
-use borrow.Author.Rules.{rules}
 use Rattle.day.proofs.Days.{received-9, received-10, received-22, received-23, received-other}
 use Rattle.day.proofs.receive.Goals as goal
 

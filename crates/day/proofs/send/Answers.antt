@@ -1,6 +1,5 @@
 use mathlib.Core.Path.{refl}
 use native.Mathlib.Omega.{arith}
-use borrow.Author.Rules.{rules}
 use Rattle.day.proofs.Days.{sent-setting, sent-refused, sent-action}
 use Rattle.day.proofs.send.Goals as goal
 

@@ -1,8 +1,7 @@
 use mathlib.Core.Path.{refl, ◌∙◌}
 use native.Mathlib.Omega.{arith}
-use borrow.Author.Rules.{rules}
 use Rattle.day.specs.Days.{bumped, noted, accepted_one, refused_one}
-use Rattle.day.proofs.Days.{tally-counted, tally-other}
+use Rattle.day.proofs.Days.{tally-counted}
 use Rattle.day.proofs.tally.Goals as goal
 
 pub returns-in-Done : goal.returns-in-Done

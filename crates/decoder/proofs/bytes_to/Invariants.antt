@@ -1,15 +1,9 @@
 -- The loop's invariant: the sum is the number of the first i bytes. Assumes nothing.
-use Prim.Native.Nat.{ℕ, ◌+◌, ◌-◌, ◌*◌, ◌≤◌}
-use mathlib.Core.Path.{◌≡◌, refl, sym, ap, ap₂, ◌∙◌}
-use native.Mathlib.Nat.{lt_of_lt_of_le}
-use native.Mathlib.Numerals.{add-one}
-use native.Mathlib.Omega.{arith}
-use borrow.Author.Rules.{rules}
-use lib.Pow.{pow_mono}
+use Prim.Native.Nat.{◌-◌, ◌≤◌}
+use mathlib.Core.Path.{◌≡◌}
 use lib.ListN.{length}
 use Rattle.frame.specs.Layout.{bytes}
 use Rattle.decoder.specs.Words.{big_end}
-use Rattle.decoder.proofs.Words.{big_end-lt}
 use Rattle.decoder.proofs.bytes_to.Given as goal
 
 abbrev pub invariant-loop-i : goal.invariant-loop-i

@@ -1,7 +1,6 @@
 use mathlib.Core.Path.{ap, ◌≡◌, ◌∙◌}
 use Prim.Native.Nat.{ℕ, ◌-◌, ◌/◌, ◌%◌, min}
 use native.Mathlib.Omega.{arith}
-use borrow.Author.Rules.{rules}
 use Rattle.table.specs.Table.{kinds, row_at, count_of}
 use Rattle.table.specs.Heads.{head_at}
 use Rattle.table.proofs.Heads.{head-count}

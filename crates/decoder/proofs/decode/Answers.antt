@@ -1,5 +1,4 @@
 use mathlib.Core.Path.{sym, ap, ◌∙◌}
-use borrow.Author.Rules.{rules}
 use Rattle.decoder.specs.declared.Sought.{Sought}
 use Rattle.decoder.specs.Decoding.{answered, decoded}
 use Rattle.decoder.proofs.Returns.{decode-short, decode-sought, row-place, row-length, decode-row}

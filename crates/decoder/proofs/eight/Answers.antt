@@ -1,6 +1,5 @@
 use mathlib.Core.Path.{ap₂, ◌∙◌}
 use Prim.Native.Nat.{ℕ, ◌+◌, ◌*◌}
-use borrow.Author.Rules.{rules}
 use Rattle.frame.specs.Layout.{bytes}
 use Rattle.decoder.proofs.Words.{eight_is}
 use Rattle.decoder.proofs.eight.Goals as goal

@@ -1,11 +1,8 @@
 -- The field lies in the frame and a word reaches it, so that a shift and a cut read it. Assumes nothing.
 use Prim.Native.Nat.{ℕ, ◌+◌, ◌-◌, ◌*◌, ◌/◌, ◌%◌, ◌^◌, ◌≤◌, ◌<◌}
-use mathlib.Core.Path.{◌≡◌, sym, ap, ◌∙◌, subst}
+use mathlib.Core.Path.{◌≡◌, sym, ap, ◌∙◌}
 use mathlib.Core.Bool.{false}
 use native.Mathlib.Omega.{arith}
-use borrow.Author.Rules.{rules}
-use borrow.Author.Tests.{le-leb}
-use lib.Dec.{T}
 use Rattle.frame.specs.declared.Field.{Field}
 use Rattle.frame.specs.Field.{size, read, Sound}
 use Rattle.frame.specs.Layout.{bytes}

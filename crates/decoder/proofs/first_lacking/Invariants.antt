@@ -1,13 +1,10 @@
 -- The loop's invariant: `low` is the answer for the fields from j on. Assumes nothing.
 use Prim.Native.Nat.{ℕ, ◌≤◌}
-use mathlib.Core.Path.{◌≡◌, sym, ap, ◌∙◌}
+use mathlib.Core.Path.{◌≡◌}
 use mathlib.Core.List.{List}
-use native.Mathlib.Omega.{arith}
-use borrow.Author.Rules.{rules}
-use lib.ListN.{length, drop, take}
+use lib.ListN.{drop, take}
 use Rattle.table.specs.Table.{count_of, numbers_of}
-use Rattle.decoder.specs.Decoding.{lower, lacking}
-use Rattle.decoder.proofs.Fields.{lacking-none, lacking-more}
+use Rattle.decoder.specs.Decoding.{lacking}
 use Rattle.decoder.proofs.first_lacking.Given as goal
 
 abbrev pub from : ℕ → List ℕ → List ℕ → ℕ → ℕ

@@ -1,18 +1,12 @@
 -- The loop's invariant: the bytes before i are clean, so what is looked for stands from i on. Assumes nothing.
-use mathlib.Core.Path.{◌≡◌, refl, ap, ◌∙◌}
+use mathlib.Core.Path.{◌≡◌}
 use mathlib.Core.List.{List}
 use Prim.Native.Nat.{ℕ, ◌+◌, ◌-◌, ◌≤◌}
-use native.Mathlib.Omega.{arith}
-use borrow.Author.Rules.{rules}
 use lib.ListN.{length, drop}
 use Rattle.frame.specs.Layout.{tab, mask_of}
 use Rattle.table.specs.Table.{row_at}
 use Rattle.table.specs.Narrowed.{fields_of}
-use Rattle.table.proofs.Rows.{row-ready}
-use Rattle.decoder.specs.Words.{held_byte}
 use Rattle.decoder.specs.Decoding.{stray, stray_at}
-use Rattle.decoder.proofs.Stray.{stray-past}
-use Rattle.decoder.proofs.Clean.{byte-stray, byte-clean}
 use Rattle.decoder.proofs.first_stray.Given as goal
 
 abbrev pub masks : ℕ → List ℕ → List ℕ

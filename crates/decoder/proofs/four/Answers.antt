@@ -2,7 +2,6 @@ use Prim.Native.Nat.{ℕ}
 use mathlib.Core.Path.{ap}
 use native.Mathlib.Nat.{add-zero}
 use native.Mathlib.Omega.{arith}
-use borrow.Author.Rules.{rules}
 use Rattle.frame.specs.Layout.{bytes}
 use Rattle.decoder.specs.Words.{big_end}
 use Rattle.decoder.proofs.four.Goals as goal

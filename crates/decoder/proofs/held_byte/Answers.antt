@@ -1,5 +1,4 @@
 use mathlib.Core.Path.{sym}
-use borrow.Author.Rules.{rules}
 use borrow.Author.Tests.{lt-ltb, le-ltb}
 use Rattle.decoder.specs.Words.{held_byte}
 use Rattle.decoder.proofs.held_byte.Goals as goal

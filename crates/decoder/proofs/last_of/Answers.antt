@@ -1,5 +1,4 @@
 use mathlib.Core.Path.{sym, ◌∙◌}
-use borrow.Author.Rules.{rules}
 use borrow.Author.Tests.{le-leb, lt-leb}
 use Rattle.decoder.specs.Words.{last_word}
 use Rattle.decoder.proofs.last_of.Goals as goal

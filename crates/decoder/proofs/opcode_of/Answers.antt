@@ -1,5 +1,4 @@
 use native.Mathlib.Omega.{arith}
-use borrow.Author.Rules.{rules}
 use Rattle.frame.specs.Field.{read, read_to}
 use Rattle.table.specs.Number.{narrow_of}
 use Rattle.decoder.proofs.opcode_of.Goals as goal

@@ -1,5 +1,4 @@
 use mathlib.Core.Path.{◌∙◌}
-use borrow.Author.Rules.{rules}
 use Rattle.decoder.proofs.Seeking.{seat-empty, seat-first, seat-second, seat-other}
 use Rattle.decoder.proofs.seek.Goals as goal
 

@@ -1,13 +1,11 @@
 -- `lay` meets its contract: the text so far stands, and what is left of it is the text of what is left of the reel.
 -- Assumes nothing.
-use mathlib.Core.Path.{◌≡◌, refl, ◌∙◌}
+use mathlib.Core.Path.{◌≡◌}
 use mathlib.Core.Bool.{cond}
 use Prim.Native.Nat.{◌-◌, ◌≤◌}
-use native.Mathlib.Omega.{arith}
-use borrow.Author.Rules.{rules}
 use lib.ListN.{length}
 use Rattle.dump_text.specs.Text.{text_of}
-use Rattle.dump_text.proofs.Whole.{Reached, reached-start, so_far, both, tail, Stepped, stepped, laid-all}
+use Rattle.dump_text.proofs.Whole.{Reached, so_far}
 use Rattle.dump_text.proofs.lay.Given as goal
 
 abbrev pub invariant-loop-used : goal.invariant-loop-used

@@ -1,9 +1,6 @@
 -- `line` meets its contract: where there is room for the longest line, there is for this one.
 -- Assumes nothing.
 use native.Mathlib.Omega.{arith}
-use borrow.Author.Rules.{rules}
-use Rattle.texts.proofs.Writing.{short-whole}
-use Rattle.dump_text.specs.Text.{line_of}
 use Rattle.dump_text.specs.Parts.{longest}
 use Rattle.dump_text.proofs.Longest.{line-longest}
 use Rattle.dump_text.proofs.Writing.{puts_whole}

@@ -1,13 +1,8 @@
 -- `put_arguments` meets its contract. The loop's invariant: the first `j` arguments stand there.
 -- Assumes nothing.
-use mathlib.Core.Path.{◌≡◌, refl, sym, ap, ◌∙◌}
-use Prim.Native.Nat.{◌-◌, ◌≤◌}
+use mathlib.Core.Path.{refl, ◌∙◌}
 use native.Mathlib.Omega.{arith}
-use borrow.Author.Rules.{rules}
-use lib.ListN.{length, take}
-use lib.Seq.{take_all}
 use Rattle.dump_text.specs.Text.{blanked}
-use Rattle.dump_text.specs.Parts.{Puts}
 use Rattle.dump_text.proofs.Writing.{puts_then, puts-as, puts_none, puts-length, blanked-next, blanked-room}
 use Rattle.dump_text.proofs.put_arguments.Goals as goal
 

@@ -1,7 +1,6 @@
 -- `put_head` meets its contract.
 -- Assumes nothing.
 use native.Mathlib.Omega.{arith}
-use borrow.Author.Rules.{rules}
 use Rattle.dump_text.proofs.Writing.{puts_then, puts-as, head-parts, head-length}
 use Rattle.dump_text.proofs.put_head.Goals as goal
 

@@ -1,7 +1,6 @@
 -- `put_kind` meets its contract.
 -- Assumes nothing.
 use native.Mathlib.Omega.{arith}
-use borrow.Author.Rules.{rules}
 use Rattle.dump_text.proofs.Writing.{puts_then, puts-as, line-kind, kind-length}
 use Rattle.dump_text.proofs.put_kind.Goals as goal
 

@@ -2,7 +2,6 @@
 -- Assumes nothing.
 use mathlib.Core.Path.{ap}
 use native.Mathlib.Omega.{arith}
-use borrow.Author.Rules.{rules}
 use lib.ListN.{length}
 use Rattle.dump_text.proofs.Writing.{puts-as}
 use Rattle.dump_text.proofs.Arguments.{handed-held, handed-kind, handed-refusal}

@@ -2,7 +2,6 @@
 -- Assumes nothing.
 use mathlib.Core.Path.{ap}
 use native.Mathlib.Omega.{arith}
-use borrow.Author.Rules.{rules}
 use lib.ListN.{length}
 use Rattle.dump_text.proofs.Writing.{puts_then, puts-as, blanked-one}
 use Rattle.dump_text.proofs.put_number.Goals as goal

@@ -1,7 +1,6 @@
 -- `put_refusal` meets its contract.
 -- Assumes nothing.
 use native.Mathlib.Omega.{arith}
-use borrow.Author.Rules.{rules}
 use Rattle.dump_text.proofs.Writing.{puts_then, puts-as, line-refusal, refusal-length}
 use Rattle.dump_text.proofs.put_refusal.Goals as goal
 

@@ -1,7 +1,6 @@
 use mathlib.Core.Path.{sym, ◌∙◌}
 use native.Mathlib.Omega.{arith}
-use borrow.Author.Rules.{rules}
-use lib.ListN.{length, length-set}
+use lib.ListN.{length}
 use Rattle.filling.proofs.Filling.{Room, append-made, appended_left, has_room_lem}
 use Rattle.filling.proofs.append.Goals as goal
 

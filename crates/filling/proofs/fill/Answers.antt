@@ -1,15 +1,13 @@
-use mathlib.Core.Path.{refl, subst, sym, ◌∙◌, ◌≡◌}
+use mathlib.Core.Path.{refl, sym, ◌∙◌, ◌≡◌}
 use mathlib.Core.List.{List, []}
-use Prim.Native.Nat.{ℕ, ◌-◌}
+use Prim.Native.Nat.{ℕ}
 use native.Mathlib.Omega.{arith}
-use borrow.Author.Rules.{rules}
-use lib.ListN.{drop, length}
+use lib.ListN.{drop}
 use Rattle.contents.specs.Contents.{layout}
-use Rattle.reel.specs.declared.Cursor.{Cursor}
 use Rattle.reel.specs.Reel.{unreel}
 use Rattle.reel.proofs.Found.{Whole, step-ended, step-refused, step-whole}
 use Rattle.filling.specs.Filling.{filled_by}
-use Rattle.filling.proofs.Filling.{Along, along-end, along-none, along-on, along-start}
+use Rattle.filling.proofs.Filling.{along-end, along-none, along-on}
 use Rattle.filling.proofs.fill.Goals as goal
 
 pub slice_bounds-slot_of-count : goal.slice_bounds-slot_of-count

@@ -1,7 +1,6 @@
 use mathlib.Core.Path.{sym, ◌∙◌, ◌≡◌}
 use mathlib.Core.Bool.{true}
 use native.Mathlib.Omega.{arith}
-use borrow.Author.Rules.{rules}
 use lib.ListN.{length}
 use Rattle.filling.specs.Filling.{sized_for}
 use Rattle.filling.proofs.Filling.{room-count, room-high, room-low, room-none, room-size, room-slot, sized-means}

@@ -1,6 +1,5 @@
 use mathlib.Core.Path.{sym}
 use native.Mathlib.Omega.{arith}
-use borrow.Author.Rules.{rules}
 use Rattle.filling.proofs.Filling.{sized-long, sized-rest, sized-short}
 use Rattle.filling.proofs.is_sized.Goals as goal
 

@@ -1,14 +1,13 @@
 use mathlib.Core.Bool.{◌&&◌}
 use mathlib.Core.List.{List, []}
 use mathlib.Core.Path.{ap, refl, sym, ◌∙◌, ◌≡◌}
-use Prim.Native.Nat.{ℕ, ◌-◌, ◌≤◌}
+use Prim.Native.Nat.{ℕ}
 use native.Mathlib.Omega.{arith}
-use borrow.Author.Rules.{rules}
-use lib.ListN.{drop, get_or, length}
+use lib.ListN.{get_or}
 use Rattle.table.specs.Table.{forms}
 use Rattle.settings.specs.Settings.{slot_for}
 use Rattle.contents.specs.Contents.{present_for}
-use Rattle.forms.specs.Forms.{both_in, in_both, long_of, short_of}
+use Rattle.forms.specs.Forms.{in_both, long_of, short_of}
 use Rattle.forms.proofs.Loops.{both_end, both_found, both-pass}
 use Rattle.forms.proofs.both_forms.Goals as goal
 

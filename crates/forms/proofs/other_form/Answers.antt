@@ -1,12 +1,11 @@
 use mathlib.Core.List.{List, []}
 use mathlib.Core.Path.{ap, refl, sym, ◌∙◌, ◌≡◌}
-use Prim.Native.Nat.{ℕ, ◌-◌, ◌≤◌}
+use Prim.Native.Nat.{ℕ}
 use native.Mathlib.Omega.{arith}
-use borrow.Author.Rules.{rules}
-use lib.ListN.{drop, get_or, length}
+use lib.ListN.{get_or}
 use Rattle.table.specs.Table.{forms}
 use Rattle.settings.specs.Settings.{slot_for}
-use Rattle.forms.specs.Forms.{long_of, other, other_in, short_of}
+use Rattle.forms.specs.Forms.{long_of, other, short_of}
 use Rattle.forms.proofs.Loops.{other-end, other-long, other-pass, other-short}
 use Rattle.forms.proofs.other_form.Goals as goal
 

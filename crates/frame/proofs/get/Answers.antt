@@ -1,5 +1,4 @@
-use mathlib.Core.Path.{sym, ◌∙◌}
-use borrow.Author.Rules.{rules}
+use mathlib.Core.Path.{sym}
 use Rattle.frame.specs.Layout.{get}
 use Rattle.frame.proofs.Fields.{sound-told}
 use Rattle.frame.proofs.get.Goals as goal

@@ -1,11 +1,8 @@
 -- The loop's invariant: the sum is the number of the k low bytes. Assumes nothing.
-use Prim.Native.Nat.{ℕ, ◌-◌, ◌/◌, ◌%◌, ◌^◌, ◌≤◌}
-use mathlib.Core.Path.{◌≡◌, refl, ◌∙◌, ap}
-use native.Mathlib.Omega.{arith}
-use borrow.Author.Rules.{rules}
-use Rattle.frame.specs.Field.{size, bits, read_to, read}
+use Prim.Native.Nat.{◌-◌, ◌≤◌}
+use mathlib.Core.Path.{◌≡◌}
+use Rattle.frame.specs.Field.{size, read_to}
 use Rattle.frame.specs.Layout.{bytes}
-use Rattle.frame.proofs.Bytewise.{get-is, get-lt}
 use Rattle.frame.proofs.get_sound.Given as goal
 
 abbrev pub invariant-loop-k : goal.invariant-loop-k

@@ -1,5 +1,4 @@
 use native.Mathlib.Omega.{arith}
-use borrow.Author.Rules.{rules}
 use Rattle.frame.proofs.Fields.{too_wide, too_long, too-high, by_bits}
 use Rattle.frame.proofs.is_sound.Goals as goal
 

@@ -1,6 +1,4 @@
-use native.Mathlib.Omega.{arith}
-use borrow.Author.Rules.{rules}
-use Rattle.frame.proofs.Bytewise.{rank-in, part-is, part-fits}
+use Rattle.frame.proofs.Bytewise.{part-is, part-fits}
 use Rattle.frame.proofs.part_of.Goals as goal
 
 pub overflow_cast-result : goal.overflow_cast-result

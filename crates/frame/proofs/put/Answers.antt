@@ -1,5 +1,4 @@
 use mathlib.Core.Path.{sym}
-use borrow.Author.Rules.{rules}
 use Rattle.frame.specs.Layout.{put}
 use Rattle.frame.proofs.Fields.{sound-told}
 use Rattle.frame.proofs.put.Goals as goal

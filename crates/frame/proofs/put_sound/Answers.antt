@@ -1,10 +1,7 @@
 -- The loop's invariant: the bytes of the field before i have their parts. Assumes nothing.
-use Prim.Native.Nat.{ℕ, ◌+◌, ◌-◌, ◌<◌, ◌≤◌}
 use native.Mathlib.Omega.{arith}
-use borrow.Author.Tests.{ltb-true, ltb-false}
-use lib.ListN.{length}
-use Rattle.frame.specs.Field.{size}
-use Rattle.frame.proofs.Bytewise.{Upto, upto-start, upto_step, upto-end}
+use borrow.Author.Tests.{ltb-false}
+use Rattle.frame.proofs.Bytewise.{upto-start, upto-end}
 use Rattle.frame.proofs.put_sound.Goals as goal
 
 pub loop-i-init : goal.loop-i-init

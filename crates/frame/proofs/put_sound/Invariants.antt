@@ -1,10 +1,7 @@
 -- The loop's invariant: the bytes of the field before i have their parts. Assumes nothing.
-use Prim.Native.Nat.{ℕ, ◌+◌, ◌-◌, ◌<◌, ◌≤◌}
-use native.Mathlib.Omega.{arith}
-use borrow.Author.Tests.{ltb-true, ltb-false}
-use lib.ListN.{length}
+use Prim.Native.Nat.{◌+◌, ◌-◌}
 use Rattle.frame.specs.Field.{size}
-use Rattle.frame.proofs.Bytewise.{Upto, upto-start, upto_step, upto-end}
+use Rattle.frame.proofs.Bytewise.{Upto}
 use Rattle.frame.proofs.put_sound.Given as goal
 
 abbrev pub invariant-loop-i : goal.invariant-loop-i

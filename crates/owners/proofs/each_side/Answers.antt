@@ -1,10 +1,8 @@
-use mathlib.Core.Path.{refl, sym, ◌∙◌, ◌≡◌}
+use mathlib.Core.Path.{sym, ◌∙◌, ◌≡◌}
 use mathlib.Core.Bool.{false, true}
-use Prim.Native.Nat.{◌-◌, ◌≤◌}
 use native.Mathlib.Omega.{arith}
-use borrow.Author.Rules.{rules}
-use lib.ListN.{drop, get_or, length}
-use Rattle.owners.specs.Owners.{each_side, is_side}
+use lib.ListN.{get_or}
+use Rattle.owners.specs.Owners.{is_side}
 use Rattle.owners.proofs.Loops.{each-end, each-pass, each-stop}
 use Rattle.owners.proofs.each_side.Goals as goal
 

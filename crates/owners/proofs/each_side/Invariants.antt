@@ -1,11 +1,7 @@
-use mathlib.Core.Path.{refl, sym, ◌∙◌, ◌≡◌}
-use mathlib.Core.Bool.{false, true}
+use mathlib.Core.Path.{◌≡◌}
 use Prim.Native.Nat.{◌-◌, ◌≤◌}
-use native.Mathlib.Omega.{arith}
-use borrow.Author.Rules.{rules}
-use lib.ListN.{drop, get_or, length}
-use Rattle.owners.specs.Owners.{each_side, is_side}
-use Rattle.owners.proofs.Loops.{each-end, each-pass, each-stop}
+use lib.ListN.{drop, length}
+use Rattle.owners.specs.Owners.{each_side}
 use Rattle.owners.proofs.each_side.Given as goal
 
 abbrev pub invariant-loop-i : goal.invariant-loop-i

@@ -1,15 +1,14 @@
 use mathlib.Core.Bool.{not}
 use mathlib.Core.List.{List, []}
 use mathlib.Core.Path.{ap, refl, sym, ◌∙◌, ◌≡◌}
-use Prim.Native.Nat.{ℕ, ◌-◌, ◌≤◌}
+use Prim.Native.Nat.{ℕ}
 use native.Mathlib.Omega.{arith}
-use borrow.Author.Rules.{rules}
 use lib.Dec.{eqb}
-use lib.ListN.{drop, get_or, length}
+use lib.ListN.{get_or}
 use Rattle.table.specs.Table.{forms}
 use Rattle.settings.specs.Settings.{slot_for}
 use Rattle.forms.specs.Forms.{long_of, short_of}
-use Rattle.owners.specs.Owners.{joined, joined_in, owner_of}
+use Rattle.owners.specs.Owners.{joined, owner_of}
 use Rattle.owners.proofs.Loops.{joined_end, joined-pass, joined-stop}
 use Rattle.owners.proofs.is_joined.Goals as goal
 

@@ -1,5 +1,4 @@
 use mathlib.Core.Path.{sym, ◌∙◌}
-use borrow.Author.Rules.{rules}
 use Rattle.owners.proofs.Loops.{right-entries, right-over, right-owners, right-rest, right-spare, right-split}
 use Rattle.owners.proofs.is_right.Goals as goal
 

@@ -1,8 +1,5 @@
-use mathlib.Core.Path.{refl, sym, ◌∙◌, ◌≡◌}
-use Prim.Native.Nat.{◌-◌}
-use borrow.Author.Rules.{rules}
-use lib.ListN.{drop, length}
-use Rattle.owners.specs.Owners.{all_first, spare_first}
+use mathlib.Core.Path.{refl, sym, ◌∙◌}
+use Rattle.owners.specs.Owners.{spare_first}
 use Rattle.owners.proofs.Loops.{spare-end, spare-pass, spare-stop}
 use Rattle.owners.proofs.spare_first.Goals as goal
 

@@ -1,9 +1,7 @@
-use mathlib.Core.Path.{refl, sym, ◌∙◌, ◌≡◌}
+use mathlib.Core.Path.{◌≡◌}
 use Prim.Native.Nat.{◌-◌}
-use borrow.Author.Rules.{rules}
 use lib.ListN.{drop, length}
 use Rattle.owners.specs.Owners.{all_first, spare_first}
-use Rattle.owners.proofs.Loops.{spare-end, spare-pass, spare-stop}
 use Rattle.owners.proofs.spare_first.Given as goal
 
 abbrev pub invariant-loop-i : goal.invariant-loop-i

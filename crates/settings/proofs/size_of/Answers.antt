@@ -1,5 +1,4 @@
 use native.Mathlib.Omega.{arith}
-use borrow.Author.Rules.{rules}
 use Rattle.settings.proofs.Settings.{size-most}
 use Rattle.settings.proofs.size_of.Goals as goal
 

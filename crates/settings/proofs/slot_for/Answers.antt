@@ -1,7 +1,6 @@
 use mathlib.Core.Path.{sym, ap, ◌≡◌, ◌∙◌}
 use Prim.Native.Nat.{ℕ, ◌-◌, ◌/◌, ◌%◌, ◌<◌, ◌≤◌}
 use native.Mathlib.Omega.{arith}
-use borrow.Author.Rules.{rules}
 use Rattle.table.specs.Table.{kinds}
 use Rattle.table.proofs.Heads.{head-at-slot}
 use Rattle.settings.specs.Settings.{slot_for}

@@ -1,5 +1,4 @@
 use mathlib.Core.Path.{◌∙◌}
-use borrow.Author.Rules.{rules}
 use Rattle.settings.proofs.Settings.{slot_of-kind, slot_of-none}
 use Rattle.settings.proofs.slot_of.Goals as goal
 

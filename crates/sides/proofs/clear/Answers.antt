@@ -1,5 +1,4 @@
 use mathlib.Core.Path.{sym, ◌∙◌}
-use borrow.Author.Rules.{rules}
 use Rattle.contents.proofs.Judged.{Bytes}
 use Rattle.book.specs.Book.{Edit, opened_for}
 use Rattle.book.proofs.Versions.{opened_for-opened, turned-off}

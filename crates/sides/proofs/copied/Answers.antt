@@ -1,5 +1,4 @@
 use mathlib.Core.Path.{sym, ◌∙◌}
-use borrow.Author.Rules.{rules}
 use borrow.Author.Tests.{eq-eqb, ne_eqb}
 use Rattle.owners.specs.Owners.{owner_of, owns}
 use Rattle.sides.proofs.copied.Goals as goal

@@ -2,7 +2,6 @@ use mathlib.Core.Bool.{Bool}
 use mathlib.Core.Path.{ap, ap₂, sym, ◌∙◌, ◌≡◌}
 use Prim.Native.Nat.{ℕ, ◌-◌}
 use native.Mathlib.Omega.{arith}
-use borrow.Author.Rules.{rules}
 use lib.ListN.{length}
 use Rattle.contents.specs.Contents.{start}
 use Rattle.owners.specs.Owners.{owner_table, owns, table_right}

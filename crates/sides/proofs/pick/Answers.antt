@@ -1,13 +1,10 @@
 use mathlib.Core.List.{[]}
-use mathlib.Core.Path.{refl, subst, sym, ◌∙◌, ◌≡◌}
-use Prim.Native.Nat.{◌-◌, ◌≤◌}
+use mathlib.Core.Path.{subst, sym, ◌∙◌}
+use Prim.Native.Nat.{◌≤◌}
 use native.Mathlib.Omega.{arith}
-use borrow.Author.Rules.{rules}
 use lib.ListN.{length}
-use Rattle.reel.specs.declared.Cursor.{Cursor}
 use Rattle.reel.proofs.Found.{Whole, step-ended, step-refused, step-whole}
-use Rattle.owners.specs.Owners.{owns}
-use Rattle.sides.proofs.Picking.{Picked, pick-on, pick-start, pick-stop, picked-end, picked_none, piece-fits}
+use Rattle.sides.proofs.Picking.{Picked, pick-on, pick-stop, picked-end, picked_none}
 use Rattle.sides.proofs.pick.Goals as goal
 
 pub slice_bounds-slot_of-count : goal.slice_bounds-slot_of-count

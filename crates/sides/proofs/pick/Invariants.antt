@@ -1,13 +1,8 @@
-use mathlib.Core.List.{[]}
-use mathlib.Core.Path.{refl, subst, sym, ◌∙◌, ◌≡◌}
-use Prim.Native.Nat.{◌-◌, ◌≤◌}
-use native.Mathlib.Omega.{arith}
-use borrow.Author.Rules.{rules}
+use mathlib.Core.Path.{◌≡◌}
+use Prim.Native.Nat.{◌-◌}
 use lib.ListN.{length}
-use Rattle.reel.specs.declared.Cursor.{Cursor}
-use Rattle.reel.proofs.Found.{Whole, step-ended, step-refused, step-whole}
 use Rattle.owners.specs.Owners.{owns}
-use Rattle.sides.proofs.Picking.{Picked, pick-on, pick-start, pick-stop, picked-end, picked_none, piece-fits}
+use Rattle.sides.proofs.Picking.{Picked}
 use Rattle.sides.proofs.pick.Given as goal
 
 abbrev pub invariant-loop-cursor : goal.invariant-loop-cursor

@@ -2,7 +2,6 @@ use mathlib.Core.Bool.{cond}
 use mathlib.Core.Path.{ap, ap₂, subst, sym, ◌∙◌, ◌≡◌}
 use Prim.Native.Nat.{ℕ, ◌*◌, ◌≤◌}
 use native.Mathlib.Omega.{arith}
-use borrow.Author.Rules.{rules}
 use Rattle.sides.specs.Calls.{Put}
 use lib.Dec.{eqb}
 use lib.ListN.{length}

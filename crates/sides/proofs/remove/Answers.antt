@@ -1,5 +1,4 @@
 use mathlib.Core.Path.{sym, ◌∙◌}
-use borrow.Author.Rules.{rules}
 use Rattle.sides.specs.Calls.{Remove}
 use Rattle.contents.proofs.Judged.{Bytes}
 use Rattle.book.specs.Book.{Edit}

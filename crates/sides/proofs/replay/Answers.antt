@@ -1,7 +1,6 @@
-use mathlib.Core.Path.{ap, sym, ◌∙◌}
+use mathlib.Core.Path.{sym, ◌∙◌}
 use Prim.Native.Nat.{ℕ, ◌≤◌}
 use native.Mathlib.Omega.{arith}
-use borrow.Author.Rules.{rules}
 use Rattle.sides.specs.Calls.{Replay}
 use lib.ListN.{length, length-replicate, replicate}
 use Rattle.contents.proofs.Judged.{Bytes}

@@ -1,7 +1,6 @@
 use mathlib.Core.Path.{sym, ◌∙◌}
 use native.Mathlib.Omega.{arith}
-use borrow.Author.Rules.{rules}
-use Rattle.sides.proofs.Weighing.{slot-absent, slot-foreign, slot-own}
+use Rattle.sides.proofs.Weighing.{slot-foreign, slot-own}
 use Rattle.sides.proofs.slot_weights.Goals as goal
 
 pub returns-then-side-eq1 : goal.returns-then-side-eq1

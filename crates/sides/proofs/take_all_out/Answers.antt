@@ -1,9 +1,7 @@
 use mathlib.Core.List.{List}
-use mathlib.Core.Path.{ap, refl, sym, ◌∙◌, ◌≡◌}
-use Prim.Native.Nat.{ℕ, ◌+◌, ◌-◌, ◌≤◌}
+use mathlib.Core.Path.{ap, sym, ◌∙◌}
+use Prim.Native.Nat.{ℕ, ◌+◌, ◌-◌}
 use native.Mathlib.Omega.{arith}
-use borrow.Author.Rules.{rules}
-use lib.ListN.{length}
 use Rattle.table.specs.Table.{kinds}
 use Rattle.owners.specs.Owners.{owns}
 use Rattle.sides.specs.Means.{emptied_bytes}

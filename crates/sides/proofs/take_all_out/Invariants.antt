@@ -1,13 +1,9 @@
-use mathlib.Core.List.{List}
-use mathlib.Core.Path.{ap, refl, sym, ◌∙◌, ◌≡◌}
-use Prim.Native.Nat.{ℕ, ◌+◌, ◌-◌, ◌≤◌}
-use native.Mathlib.Omega.{arith}
-use borrow.Author.Rules.{rules}
+use mathlib.Core.Path.{◌≡◌}
+use Prim.Native.Nat.{◌+◌, ◌-◌, ◌≤◌}
 use lib.ListN.{length}
 use Rattle.table.specs.Table.{kinds}
 use Rattle.owners.specs.Owners.{owns}
 use Rattle.sides.specs.Means.{emptied_bytes}
-use Rattle.sides.proofs.Calling.{emptied-end, emptied-on}
 use Rattle.sides.proofs.take_all_out.Given as goal
 
 abbrev pub invariant-loop-k : goal.invariant-loop-k

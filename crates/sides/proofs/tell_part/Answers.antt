@@ -1,9 +1,8 @@
 use Prim.Native.Nat.{ℕ, ◌≤◌}
 use native.Mathlib.Omega.{arith}
-use borrow.Author.Rules.{rules}
 use lib.ListN.{length, length-replicate}
 use Rattle.book.specs.Book.{longest_reel}
-use Rattle.sides.proofs.Picking.{give-done, give-short}
+use Rattle.sides.proofs.Picking.{give-done}
 use Rattle.sides.proofs.tell_part.Goals as goal
 
 pub returns-then-n-out : goal.returns-then-n-out

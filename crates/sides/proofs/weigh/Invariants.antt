@@ -1,11 +1,8 @@
 use Prim.Native.Nat.{◌*◌, ◌+◌, ◌-◌, ◌≤◌}
 use mathlib.Core.Path.{◌≡◌}
-use native.Mathlib.Omega.{arith}
-use borrow.Author.Rules.{rules}
 use Rattle.table.specs.Table.{settings}
 use Rattle.owners.specs.Owners.{owns}
 use Rattle.sides.specs.Means.{weight_from}
-use Rattle.sides.proofs.Weighing.{weight-end, weight-step}
 use Rattle.sides.proofs.weigh.Given as goal
 
 abbrev pub invariant-loop-s : goal.invariant-loop-s

@@ -1,5 +1,4 @@
 use mathlib.Core.Path.{sym, ◌∙◌}
-use borrow.Author.Rules.{rules}
 use Rattle.sides.proofs.Weighing.{after_last, after_less, after-over, after-swap}
 use Rattle.sides.proofs.weight_after.Goals as goal
 

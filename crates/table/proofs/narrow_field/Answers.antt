@@ -1,4 +1,3 @@
-use borrow.Author.Rules.{rules}
 use mathlib.Core.Path.{refl}
 use Rattle.table.specs.Number.{narrow_of}
 use Rattle.table.proofs.narrow_field.Goals as goal

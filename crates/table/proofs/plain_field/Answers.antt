@@ -1,4 +1,3 @@
-use borrow.Author.Rules.{rules}
 use mathlib.Core.Path.{refl}
 use Rattle.table.specs.Number.{plain_of}
 use Rattle.table.proofs.plain_field.Goals as goal

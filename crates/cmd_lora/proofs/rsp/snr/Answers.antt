@@ -1,6 +1,5 @@
 -- `snr` meets its contract: a reading is its count.
 -- Assumes nothing.
-use borrow.Author.Rules.{rules}
 use Rattle.cmd_lora.specs.Responses.{snr}
 use Rattle.cmd_lora.proofs.rsp.snr.Goals as goal
 

@@ -2,7 +2,6 @@
 -- Assumes nothing.
 use mathlib.Core.Path.{sym}
 use native.Mathlib.Omega.{arith}
-use borrow.Author.Rules.{rules}
 use Rattle.reel.proofs.Steps.{step_past, step_end, step-frame, step_cut}
 use Rattle.reel.proofs.Cursor.step.Goals as goal
 

@@ -1,6 +1,5 @@
 -- `CcaResultRsp::read` meets its contract, field by field.
 -- Assumes nothing.
-use borrow.Author.Rules.{rules}
 use Rattle.cmd_common.specs.Responses.{cca_result_rsp}
 use Rattle.cmd_common.proofs.rsp.CcaResultRsp.read.Goals as goal
 

@@ -1,6 +1,5 @@
 -- `RssiInstRsp::read` meets its contract, field by field.
 -- Assumes nothing.
-use borrow.Author.Rules.{rules}
 use Rattle.cmd_common.specs.Responses.{rssi_inst_rsp}
 use Rattle.cmd_common.proofs.rsp.RssiInstRsp.read.Goals as goal
 

@@ -1,6 +1,5 @@
 -- `TimestampValueRsp::read` meets its contract, field by field.
 -- Assumes nothing.
-use borrow.Author.Rules.{rules}
 use Rattle.cmd_common.specs.Responses.{timestamp_value_rsp}
 use Rattle.cmd_common.proofs.rsp.TimestampValueRsp.read.Goals as goal
 

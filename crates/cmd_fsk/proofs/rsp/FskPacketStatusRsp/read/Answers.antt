@@ -1,6 +1,5 @@
 -- `FskPacketStatusRsp::read` meets its contract, field by field.
 -- Assumes nothing.
-use borrow.Author.Rules.{rules}
 use Rattle.cmd_fsk.specs.Responses.{fsk_packet_status_rsp}
 use Rattle.cmd_fsk.proofs.rsp.FskPacketStatusRsp.read.Goals as goal
 

@@ -1,6 +1,5 @@
 -- `FskRxStatsRsp::read` meets its contract, field by field.
 -- Assumes nothing.
-use borrow.Author.Rules.{rules}
 use Rattle.cmd_fsk.specs.Responses.{fsk_rx_stats_rsp}
 use Rattle.cmd_fsk.proofs.rsp.FskRxStatsRsp.read.Goals as goal
 

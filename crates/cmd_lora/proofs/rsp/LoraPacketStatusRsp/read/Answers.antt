@@ -1,6 +1,5 @@
 -- `LoraPacketStatusRsp::read` meets its contract, field by field.
 -- Assumes nothing.
-use borrow.Author.Rules.{rules}
 use Rattle.cmd_lora.specs.Responses.{lora_packet_status_rsp}
 use Rattle.cmd_lora.proofs.rsp.LoraPacketStatusRsp.read.Goals as goal
 

@@ -1,6 +1,5 @@
 -- `LoraRxStatsRsp::read` meets its contract, field by field.
 -- Assumes nothing.
-use borrow.Author.Rules.{rules}
 use Rattle.cmd_lora.specs.Responses.{lora_rx_stats_rsp}
 use Rattle.cmd_lora.proofs.rsp.LoraRxStatsRsp.read.Goals as goal
 
