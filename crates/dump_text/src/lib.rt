@@ -217,7 +217,7 @@ fn lay_part(part: &[u8], out: &mut [u8], at: usize, write: bool)
     ensures { out.new ≡ cond write (laid_at part.now at out.old) out.old }
 {
     if write {
-        bytes::copy(part, &mut out[at..]);
+        out[at..at + part.len()].copy_from_slice(part);
     }
 }
 

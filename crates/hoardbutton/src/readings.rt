@@ -17,7 +17,7 @@ fn written(text: &[u8], out: &mut [u8]) -> HbAnswer
 {
     let n = text.len();
     if n <= out.len() {
-        bytes::copy(text, out);
+        out[0..n].copy_from_slice(text);
         return done(n as u64);
     }
     refused(Refusal::OutputShort)

@@ -1,5 +1,5 @@
 // An answer: eighty bytes, of which the first `len` are filled. What does not fit is left out. Numbers go low byte first.
-#[derive(Drop)]
+#[derive(Clone, Copy)]
 pub struct Answer {
     pub bytes: [u8; 80],
     pub len: usize,

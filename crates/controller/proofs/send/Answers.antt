@@ -1,5 +1,6 @@
 -- `send` meets its contract. Assumes nothing.
-use mathlib.Core.Path.{ap, sym, ◌∙◌}
+use mathlib.Core.Path.{ap, refl, sym, ◌∙◌}
+use borrow.Author.Rules.{rules}
 use Rattle.book.proofs.Told.{Replayed, replay-refused, replay-told}
 use Rattle.contents.specs.Contents.{Contents}
 use Rattle.controller.specs.Controller.{sending_of}

@@ -1,5 +1,6 @@
 -- `to_send` meets its contract: each return stands under the cases that led there. Assumes nothing.
-use mathlib.Core.Path.{◌∙◌}
+use mathlib.Core.Path.{refl, ◌∙◌}
+use borrow.Author.Rules.{rules}
 use Prim.Native.Nat.{◌<◌}
 use lib.ListN.{get_or, length}
 use mathlib.Core.List.{[]}

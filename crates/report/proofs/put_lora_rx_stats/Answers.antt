@@ -1,0 +1,12 @@
+-- `put_lora_rx_stats` meets its contract: filled in, the form is the line.
+-- Assumes nothing.
+use mathlib.Core.Path.{refl, ap, ◌∙◌}
+use borrow.Author.Rules.{rules}
+use Rattle.texts.proofs.Writing.{puts-as, puts_none}
+use Rattle.report.specs.Report.{lora_rx_stats_text}
+use Rattle.report.proofs.Forms.{lora-rx-form}
+use Rattle.report.proofs.put_lora_rx_stats.Goals as goal
+
+pub returns : goal.returns
+returns c =
+    puts-as _ (ap lora_rx_stats_text c.in-Last.is ∙ lora-rx-form _ _ _ _ _) c.put_form.ensures
