@@ -1,6 +1,5 @@
 -- `hear` meets its contract. Assumes nothing.
-use mathlib.Core.Path.{ap, refl, sym, ◌∙◌}
-use borrow.Author.Rules.{rules}
+use mathlib.Core.Path.{ap, sym, ◌∙◌}
 use Rattle.book.proofs.Told.{Replayed, replay-refused, replay-told}
 use Rattle.status.specs.declared.Status.{Status}
 use Rattle.status.specs.Words.{cmd_in}

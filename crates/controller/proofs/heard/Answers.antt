@@ -1,7 +1,6 @@
 -- `heard` meets its contract: each return stands under the cases that led there. Assumes nothing.
 use mathlib.Core.Path.{◌∙◌}
 use native.Mathlib.Omega.{arith}
-use borrow.Author.Rules.{rules}
 use Rattle.controller.proofs.Walking.{lies-frame, lies-nothing, lies-read}
 use Rattle.controller.proofs.Steps.{heard-by, heard-done, heard-frame, heard-over, heard-read, heard-stopped}
 use Rattle.controller.proofs.heard.Goals as goal

@@ -1,6 +1,5 @@
 -- `send` meets its contract. Assumes nothing.
-use mathlib.Core.Path.{ap, refl, sym, ◌∙◌}
-use borrow.Author.Rules.{rules}
+use mathlib.Core.Path.{ap, sym, ◌∙◌}
 use Rattle.book.proofs.Told.{Replayed, replay-refused, replay-told}
 use Rattle.contents.specs.Contents.{Contents}
 use Rattle.controller.specs.Controller.{sending_of}

@@ -1,6 +1,5 @@
 -- `start` meets its contract. Assumes nothing.
-use mathlib.Core.Path.{ap, refl, sym}
-use borrow.Author.Rules.{rules}
+use mathlib.Core.Path.{ap, sym}
 use Rattle.book.proofs.Told.{Replayed, replay-refused, replay-told}
 use Rattle.controller.specs.Controller.{start_of}
 use Rattle.controller.proofs.Steps.{long, start-empty, start-some}

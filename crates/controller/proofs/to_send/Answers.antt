@@ -1,6 +1,5 @@
 -- `to_send` meets its contract: each return stands under the cases that led there. Assumes nothing.
-use mathlib.Core.Path.{refl, ◌∙◌}
-use borrow.Author.Rules.{rules}
+use mathlib.Core.Path.{◌∙◌}
 use Prim.Native.Nat.{◌<◌}
 use lib.ListN.{get_or, length}
 use mathlib.Core.List.{[]}
