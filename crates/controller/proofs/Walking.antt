@@ -9,8 +9,10 @@ use borrow.Author.Tests.{ltb-false, ltb-true}
 use lib.Dec.{ltb}
 use lib.ListN.{drop, get_or, length, take}
 use Rattle.reel.specs.declared.Cursor.{Cursor}
-use Rattle.reel.specs.Reel.{Unreeled, unreel}
-use Rattle.reel.proofs.Found.{Cut, Ended, Whole}
+use Rattle.reel.specs.Reel.{Unreeled, step_at, unreel}
+use Rattle.reel.specs.declared.Step.{Step}
+use Rattle.reel.specs.declared.Step.TheVariants as step
+use Rattle.reel.proofs.Found.{Cut, Ended, Whole, step-whole}
 use Rattle.reel.proofs.Walks.{from_end}
 use Rattle.controller.specs.declared.Ahead.{Ahead}
 use Rattle.controller.specs.declared.Ahead.TheVariants as ahead
@@ -108,3 +110,12 @@ module _ (reel : List ℕ) (fs : List (List ℕ)) (sent : ℕ) (a : Ahead) (l : 
   pub lies-nothing : a ≡ ahead.Nothing → is_over (length fs) sent ≡ true
   unfolding Lies
   lies-nothing e = subst (Lies reel fs sent) e l
+
+-- the frame that is told where none of those sent is left
+pub frame_told : (reel : List ℕ) (sent start end : ℕ) {at left : ℕ} {told : Step} {next : Cursor} → Seeking reel sent at left → told ≡ step_at reel at
+    → told ≡ step.Frame start end next → left ≡ 0 → Lies reel (unreel reel).frames sent (ahead.Frame start end)
+frame_told reel sent start end {at} {left} {told} {next} g e f z =
+    frame_here reel sent at left g start end next (step-whole reel at start end next (sym e ∙ f)) z
+
+-- what the check tries at the goals of `look_ahead`
+pub ruleset ahead_steps = (frame_told)

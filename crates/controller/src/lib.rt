@@ -64,6 +64,7 @@ fn behind(sent: usize, left: usize) -> Ahead
 }
 
 // What comes behind the frames that are sent.
+#[tactic(auto, using(crate::proofs::Walking::ahead_steps))]
 fn look_ahead(reel: &[u8], sent: usize) -> Ahead
     ensures { Lies reel.now (unreel reel.now).frames sent result }
 {

@@ -1,25 +1,19 @@
 -- `look_ahead` meets its contract: the loop's invariant is `Seeking`. Assumes nothing.
 use mathlib.Core.Path.{sym, ◌∙◌}
 use native.Mathlib.Omega.{arith}
-use Rattle.reel.proofs.Found.{Whole, step-ended, step-refused, step-whole}
-use Rattle.controller.proofs.Walking.{frame_here, left_cut, left_ended, left_out, seeking-frame}
+use Rattle.reel.proofs.Found.{step-ended, step-refused, step-whole}
+use Rattle.controller.proofs.Walking.{left_cut, left_ended, left_out, seeking-frame}
 use Rattle.controller.proofs.look_ahead.Goals as goal
-
-pub returns-then-left-eq0 : goal.returns-then-left-eq0
-returns-then-left-eq0 c =
-    let found : Whole c.args.reel.now c.loop-cursor.cursor.at c.in-Frame.start c.in-Frame.end c.in-Frame.next = step-whole _ _ _ _ _ (sym c.step-step.ensures ∙ c.in-Frame.is) in
-    frame_here _ _ _ _ c.loop-cursor.invariant _ _ _ found c.if-left-eq0.true
 
 pub loop-cursor-smaller : goal.loop-cursor-smaller
 loop-cursor-smaller c =
-    let found : Whole c.args.reel.now c.loop-cursor.cursor.at c.in-Frame.start c.in-Frame.end c.in-Frame.next = step-whole _ _ _ _ _ (sym c.step-step.ensures ∙ c.in-Frame.is) in
-    let w = found in
-    omega (arith, w.behind, w.forward, w.inside, w.onward)
+    let found = step-whole _ _ _ _ _ (sym c.step-step.ensures ∙ c.in-Frame.is) in
+    omega (arith, found.behind, found.forward, found.inside, found.onward)
 
 pub loop-cursor-preserved : goal.loop-cursor-preserved
 loop-cursor-preserved c =
-    let found : Whole c.args.reel.now c.loop-cursor.cursor.at c.in-Frame.start c.in-Frame.end c.in-Frame.next = step-whole _ _ _ _ _ (sym c.step-step.ensures ∙ c.in-Frame.is) in
-    seeking-frame _ _ _ _ c.loop-cursor.invariant _ _ _ found (omega (arith, c.if-left-eq0.false))
+    let found = step-whole _ _ _ _ _ (sym c.step-step.ensures ∙ c.in-Frame.is) in
+    seeking-frame _ _ _ _ c.loop-cursor.invariant _ _ _ found (omega arith)
 
 pub returns-in-End : goal.returns-in-End
 returns-in-End c =

@@ -1,9 +1,10 @@
 -- `put_rule_word` meets its contract: the arm of a rule's number has its word.
 -- Assumes nothing.
 use mathlib.Core.Path.{◌≡◌, ap}
+use native.Mathlib.Omega.{arith}
+use borrow.Author.Rules.{rules}
 use mathlib.Core.List.{List}
 use Prim.Native.Nat.{ℕ}
-use borrow.Author.Rules.{rules}
 use Rattle.texts.specs.Written.{Puts}
 use Rattle.texts.proofs.Writing.{puts-as, puts_none}
 use Rattle.profile_text.specs.Text.{rule_word}
@@ -16,7 +17,7 @@ is e u = puts-as _ (ap rule_word e) u
 
 pub returns-in-1 : goal.returns-in-1
 unfolding rule_word
-returns-in-1 c = is c.in-1.is c.put_text.ensures
+returns-in-1 c = is c.in-1.is (search rules)
 
 pub returns-in-2 : goal.returns-in-2
 unfolding rule_word
@@ -44,7 +45,6 @@ returns-in-7 c = is c.in-7.is c.put_text-in-7.ensures
 
 pub returns-in_default : goal.returns-in_default
 returns-in_default c =
-    let not = c.in_default.in_default-own.rest in
     puts-as _
-    (word_none _ not.0.0.0.0.0.0.1 not.0.0.0.0.0.1 not.0.0.0.0.1 not.0.0.0.1 not.0.0.1 not.0.1 not.1)
+    (word_none _ (omega arith) (omega arith) (omega arith) (omega arith) (omega arith) (omega arith) (omega arith))
     (puts_none _ _)
