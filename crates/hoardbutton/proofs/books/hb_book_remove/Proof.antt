@@ -1,9 +1,0 @@
-use borrow.Author.Rules.{rules}
-use Rattle.hoardbutton.proofs.books.hb_book_remove.Statement.{statement}
-use Rattle.hoardbutton.proofs.books.hb_book_remove.Tie as tie
-
-returns : tie.Need-returns
-returns c = (cc, cc)
-
-pub hb-book-remove-spec : {M : Type 1} → statement M
-hb-book-remove-spec = tie.close (tie.spec (λ c κs. search rules) (λ c κs. search rules) (λ c. search rules) returns)
