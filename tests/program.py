@@ -1,4 +1,4 @@
-"""How a program that rt built is called, directly or by the kit's emulator where the machine is not x86-64, and what it is given."""
+"""How a program that rt built is called, directly or by `run-rattle` where the machine is not x86-64, and what it is given."""
 import os
 
 HERE = os.path.dirname(os.path.abspath(__file__))
