@@ -1,5 +1,5 @@
 // A dump in the Rust that one would write by hand from the reference: buffered, over C's calls, since a program with std does not start under
-// the kit's emulator. bench/run compares the program `dump` with it.
+// `qemu-x86_64`. bench/run compares the program `dump` with it.
 #![no_std]
 
 #[path = "../target/bench/decoder.rs"]

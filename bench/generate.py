@@ -44,7 +44,7 @@ def conversions(enums, path):
 
 
 def port(enums, builders):
-    out = ["// Made by bench/generate.py: the port exported to C, for bench/run.\n"]
+    out = ["// Made by bench/generate.py: the port exported to C, for bench/run.\n#![tactic(auto)]\n"]
     out += conversions(enums, lambda crate, name: f"{crate}::{name}")
     for kind, crate, name, params, size in builders:
         head = "".join(f"{p}: u64, " for p, _ in params)
@@ -58,7 +58,7 @@ def port(enums, builders):
                 args.append(f"({p} % {1 << WIDTH[t]}) as {t}")
             else:
                 args.append(f"to_{snake(t)}({p})")
-        out.append(f'#[no_mangle]\npub extern "C" fn hb_{kind}({head}out: &mut [u8; {size}]) {{\n    let cmd = {crate}::{name}({", ".join(args)});\n    *out = cmd;\n}}\n')
+        out.append(f'#[unsafe(no_mangle)]\npub extern "C" fn hb_{kind}({head}out: &mut [u8; {size}]) {{\n    let cmd = {crate}::{name}({", ".join(args)});\n    *out = cmd;\n}}\n')
     out.append(open("bench/readers.rt.txt", encoding="utf8").read())
     return "\n".join(out)
 

@@ -39,12 +39,11 @@ def make_reels(small, large):
 
 
 def runner():
-    """What stands before a program: the kit's loader with the kit's libraries, and its emulator where the machine is not x86-64."""
+    """What stands before a program: the kit's loader with the kit's libraries, and `qemu-x86_64` where the machine is not x86-64."""
     guide = subprocess.run(["rt", "doc"], stdout=subprocess.PIPE, check=True, universal_newlines=True).stdout.strip()
-    tools = os.path.join(os.path.dirname(guide), "..", "on", platform.machine(), "toolchain")
-    emulator = os.path.join(tools, "bin", "qemu-x86_64")
+    tools = os.path.join(os.path.dirname(guide), "toolchain")
     loader = [os.path.join(tools, "lib", "ld-linux-x86-64.so.2"), "--library-path", os.path.join(tools, "lib")]
-    return ([emulator] if os.access(emulator, os.X_OK) else []) + loader
+    return ([] if platform.machine() == "x86_64" else ["qemu-x86_64"]) + loader
 
 
 RUNNER = runner()
@@ -72,7 +71,7 @@ def same(programs, reel):
 
 def main():
     out, rust = sys.argv[1:]
-    programs = ["target/bin/dump", rust]
+    programs = ["crates/dump/out/dump", rust]
     empty, small, large = [os.path.join(out, name) for name in ("reel-empty", "reel-10", "reel-100")]
     open(empty, "wb").close()
     make_reels(small, large)
