@@ -30,7 +30,7 @@ pub enum Found {
 pub const KEPT: usize = 33;
 
 // The banks kept, with zeros behind them; zeros alone where a line is wrong.
-#[derive(Drop)]
+#[derive(Clone, Copy)]
 pub struct Listed {
     pub found: Found,
     pub needs: [u64; 33],

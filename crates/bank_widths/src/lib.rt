@@ -11,7 +11,7 @@ ghost use Rattle.bank_widths.specs.Keys.{better, choice_for, greatest, key_of, l
 use refusal::Refusal;
 
 // So many banks are right, or why not all are; 19 and 20 have the first such bank, counted from 1.
-#[derive(Drop)]
+#[derive(Clone, Copy)]
 pub enum Answer {
     Done(usize),
     Refused(Refusal),

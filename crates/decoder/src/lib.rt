@@ -17,14 +17,14 @@ use refusal::Refusal;
 mod rows;
 mod seats;
 
-#[derive(Drop)]
+#[derive(Clone, Copy)]
 pub enum Answer {
     Kind(u64),
     Refused(Refusal),
 }
 
 // A frame's kind, and its first count arguments; zeros follow.
-#[derive(Drop)]
+#[derive(Clone, Copy)]
 pub struct Decoded {
     pub answer: Answer,
     pub count: usize,
@@ -32,7 +32,7 @@ pub struct Decoded {
 }
 
 // What an opcode and a length lead to: the row at a place, or why there is none.
-#[derive(Drop)]
+#[derive(Clone, Copy)]
 pub enum Sought {
     Row(usize),
     WrongLength,

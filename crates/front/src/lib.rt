@@ -2,7 +2,7 @@
 // it has to say. There are no callbacks: a program asks for what comes next, input by input, and keeps what is its own. It gives its name where something
 // may have to be said, since a message begins with it, and the standard streams, which its `main` has.
 // What is read and written is the system's. The contracts say how much there is, and what of a lent buffer is as it was (specs/Buffers.antt).
-// A program has no exit status: what could not be done stands on standard error.
+// A program's exit status says nothing: what could not be done stands on standard error.
 #![tactic(auto)]
 
 ghost use Rattle.std.specs.Prelude.{◌≡◌, ◌≤◌, length, take};

@@ -8,7 +8,7 @@ ghost use Rattle.status_list.specs.Words.{all_digits, begins, digit_of, in_comme
 ghost use Rattle.status_list.specs.Found.{byte_before, found_at, line_of, newlines_in, said_by, skipped_from, word_length};
 
 // The first word from a place on: the two bytes of a status, and the place behind it; no word; or where one lies that is not four hex digits.
-#[derive(Drop)]
+#[derive(Clone, Copy)]
 pub enum Found {
     Status { high: u8, low: u8, next: usize },
     End,

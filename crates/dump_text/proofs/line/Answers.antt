@@ -13,7 +13,6 @@ put_line-requires c =
 
 pub returns : goal.returns
 returns c =
-    let room = c.if-out-lt-LONGEST.false in
     let put = c.put_line.ensures in
-    let whole = puts_whole _ _ longest (line-longest _ _) room put in
+    let whole = puts_whole _ _ longest (line-longest _ _) (omega arith) put in
     record { value = whole.0; out_after = whole.1.0; upper_bound = whole.1.1 }

@@ -18,9 +18,8 @@ use Rattle.report.proofs.frame.Goals as goal
 pub returns : goal.returns
 unfolding frame_text
 returns c =
-    let room = c.if-out-lt-LONGEST_LINE.false in
     let said = c.line-n.ensures in
     let line = sym (laid-part (line_of _ _) (replicate 64 0) dump.longest said.value said.out_after (omega arith)) in
     let put = puts_then c.put_text-to.ensures c.put_text.ensures in
-    let whole = puts_whole longest_line (frame-most _ _) room (puts-as _ (ap (λ (l : List ℕ). word "frame" ++ (32 ∷ l)) line) put) in
+    let whole = puts_whole longest_line (frame-most _ _) (omega arith) (puts-as _ (ap (λ (l : List ℕ). word "frame" ++ (32 ∷ l)) line) put) in
     record { value = whole.0; out_after = whole.1.0; upper_bound = whole.1.1 }

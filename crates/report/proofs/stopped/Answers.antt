@@ -1,6 +1,7 @@
 -- `stopped` meets its contract.
 -- Assumes nothing.
 use mathlib.Core.Path.{refl}
+use native.Mathlib.Omega.{arith}
 use borrow.Author.Rules.{rules}
 use Rattle.texts.proofs.Writing.{puts-as, puts_whole, short-whole}
 use Rattle.report.specs.Report.{stopped_text}
@@ -12,6 +13,5 @@ use Rattle.report.proofs.stopped.Goals as goal
 pub returns : goal.returns
 unfolding stopped_text
 returns c =
-    let room = c.if-out-lt-LONGEST_LINE.false in
-    let whole = puts_whole longest_line (stopped-most _) room (puts-as _ (stopped-form 15 _) c.put_form.ensures) in
+    let whole = puts_whole longest_line (stopped-most _) (omega arith) (puts-as _ (stopped-form 15 _) c.put_form.ensures) in
     record { value = whole.0; out_after = whole.1.0; upper_bound = whole.1.1 }
