@@ -1,10 +1,10 @@
 -- What fits is done (`written-fits`, `slid-fits`, `slid_up-fits`, `zeroed-fits`, `stored-fits`), what does not is not (`written_over` and the like);
--- and what fits, in the code's terms (`bounds-..`).
+-- and with no gap, what fits in the code's terms (`bounds-..`).
 -- Assumes nothing.
-use mathlib.Core.Path.{refl, sym, ◌∙◌, ◌≡◌}
+use mathlib.Core.Path.{sym, ◌∙◌, ◌≡◌}
 use mathlib.Core.Bool.{Bool, false, true}
 use mathlib.Core.List.{List}
-use Prim.Native.Nat.{ℕ, ◌+◌, ◌-◌, ◌<◌, ◌≤◌}
+use Prim.Native.Nat.{ℕ, ◌+◌, ◌<◌, ◌≤◌}
 use native.Mathlib.Omega.{arith}
 use borrow.Author.Tests.{le-leb, le-ltb, leb-false, leb-true, lt-leb, lt-ltb}
 use lib.Dec.{leb}
@@ -61,20 +61,6 @@ module _ (b : List ℕ) (i v : ℕ) where
   stored-over s h = rw (lt-ltb _ _ s, lt-leb _ _ h)
 
 -- ---- in bounds
-
-module _ (len at gap m : ℕ) where
-  pub bounds-at : len < at → false ≡ leb (at + gap + m) len
-  bounds-at h = sym (lt-leb (at + gap + m) len (omega arith))
-
-  pub bounds-gap : at ≤ len → len - at < gap → false ≡ leb (at + gap + m) len
-  bounds-gap a h = sym (lt-leb (at + gap + m) len (omega arith))
-
-  pub bounds-rest : at ≤ len → gap ≤ len - at → leb m (len - at - gap) ≡ leb (at + gap + m) len
-  bounds-rest a b = go (leb m (len - at - gap)) refl
-    where
-      go : (t : Bool) → leb m (len - at - gap) ≡ t → t ≡ leb (at + gap + m) len
-      go true e = let h : m ≤ len - at - gap = leb-true m (len - at - gap) e in sym (le-leb (at + gap + m) len (omega arith))
-      go false e = let h : len - at - gap < m = leb-false m (len - at - gap) e in sym (lt-leb (at + gap + m) len (omega arith))
 
 -- with no gap
 module _ (len at m : ℕ) (t : Bool) (e : t ≡ leb (at + 0 + m) len) where

@@ -9,13 +9,7 @@ ghost use Rattle.spans.specs.Spans.{stored, written, slid, slid_up, zeroed};
 fn in_bounds(len: usize, at: usize, gap: usize, m: usize) -> bool
     ensures { result ≡ leb (at + gap + m) len }
 {
-    if len < at {
-        return false;
-    }
-    if len - at < gap {
-        return false;
-    }
-    m <= len - at - gap
+    at <= len && gap <= len - at && m <= len - at - gap
 }
 
 // Writes s over the bytes from `at` on.
@@ -23,11 +17,7 @@ pub fn write(b: &mut [u8], at: usize, s: &[u8])
     ensures { b.new ≡ written b.old at s.now }
 {
     if in_bounds(b.len(), at, 0, s.len()) {
-        let mut i: usize = 0;
-        while i < s.len() {
-            b[at + i] = s[i];
-            i += 1;
-        }
+        b[at..at + s.len()].copy_from_slice(s);
     }
 }
 
@@ -36,24 +26,16 @@ pub fn slide(b: &mut [u8], at: usize, gap: usize, m: usize)
     ensures { b.new ≡ slid b.old at gap m }
 {
     if in_bounds(b.len(), at, gap, m) {
-        let mut i: usize = 0;
-        while i < m {
-            b[at + i] = b[at + gap + i];
-            i += 1;
-        }
+        b.copy_within(at + gap..at + gap + m, at);
     }
 }
 
-// Moves the m bytes from `at` on up to at + gap, the last one first.
+// Moves the m bytes from `at` on up to at + gap.
 pub fn slide_up(b: &mut [u8], at: usize, gap: usize, m: usize)
     ensures { b.new ≡ slid_up b.old at gap m }
 {
     if in_bounds(b.len(), at, gap, m) {
-        let mut i = m;
-        while i > 0 {
-            i -= 1;
-            b[at + gap + i] = b[at + i];
-        }
+        b.copy_within(at..at + m, at + gap);
     }
 }
 
@@ -62,11 +44,7 @@ pub fn zero(b: &mut [u8], at: usize, m: usize)
     ensures { b.new ≡ zeroed b.old at m }
 {
     if in_bounds(b.len(), at, 0, m) {
-        let mut i: usize = 0;
-        while i < m {
-            b[at + i] = 0;
-            i += 1;
-        }
+        b[at..at + m].fill(0);
     }
 }
 
@@ -74,10 +52,8 @@ pub fn zero(b: &mut [u8], at: usize, m: usize)
 pub fn put_word(b: &mut [u8], i: usize, v: usize)
     ensures { b.new ≡ stored b.old i v }
 {
-    if v < 65536 {
-        if in_bounds(b.len(), i, 0, 2) {
-            b[i] = (v / 256) as u8;
-            b[i + 1] = (v % 256) as u8;
-        }
+    if v < 65536 && in_bounds(b.len(), i, 0, 2) {
+        let word = (v as u16).to_be_bytes();
+        b[i..i + 2].copy_from_slice(&word);
     }
 }
