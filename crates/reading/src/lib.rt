@@ -2,12 +2,12 @@
 // The functions follow the definitions of specs/Level.antt and specs/Decimal.antt one by one. Each `push_..` appends to a text, so they compose.
 #![tactic(auto)]
 
-ghost use Rattle.std.specs.Prelude.{◌≡◌, ℕ, List, [], ◌∷◌, ◌++◌, unsigned_abs};
+ghost use Rattle.std.specs.Prelude.{◌≡◌, ℕ, List, [], ◌∷◌, ◌++◌};
 ghost use Rattle.reading.specs.Decimal.{digit, decimal};
 ghost use Rattle.reading.specs.Level.{signed_of, minus, tenths, hundredths, rssi_text, snr_text, text_of, counter_difference};
 
 // A text of at most eight bytes, with zeros behind it.
-#[derive(Clone, Copy)]
+#[derive(Clone, Copy, PartialEq, Eq, Debug)]
 pub struct Text {
     pub bytes: [u8; 8],
     pub len: usize,
@@ -17,10 +17,11 @@ pub struct Text {
 fn last_digit(n: u32) -> u8
     ensures { result ≡ digit n }
 {
-    48 + (n % 10) as u8
+    b'0' + (n % 10) as u8
 }
 
 // The text with one byte more; a text that is full stays as it is.
+// The clause names the list that the text is of, so that pushes compose; an invariant of Text would speak of its first eight bytes in each.
 #[tactic(auto, using(crate::proofs::Texts::stored_behind))]
 fn push(t: Text, b: u8) -> Text
     ensures { (l : List ℕ) → t ≡ text_of l → result ≡ text_of (l ++ (b ∷ [])) }
@@ -48,7 +49,7 @@ fn sign(below: bool) -> Text
     ensures { result ≡ text_of (minus below) }
 {
     let none = Text {
-        bytes: [0, 0, 0, 0, 0, 0, 0, 0],
+        bytes: [0; 8],
         len: 0,
     };
     if below { push(none, b'-') } else { none }
@@ -70,15 +71,8 @@ fn push_hundredths(t: Text, n: u32) -> Text
     push(push(push(whole, b'.'), last_digit(n / 10)), last_digit(n))
 }
 
-// How far z is from 0.
-fn magnitude(z: i8) -> u8
-    ensures { result ≡ unsigned_abs z }
-{
-    if z < 0 { (-1 - z) as u8 + 1 } else { z as u8 }
-}
-
 // An RSSI: so many half dBm below zero. The chip counts to 511; every u16 has its text.
-#[derive(Clone, Copy)]
+#[derive(Clone, Copy, PartialEq, Eq, Debug)]
 pub struct HalfDbm(pub u16);
 
 impl HalfDbm {
@@ -86,13 +80,13 @@ impl HalfDbm {
     pub fn text(self) -> Text
         ensures { result ≡ text_of (rssi_text self.0) }
     {
-        let count = self.0 as u32;
+        let count = u32::from(self.0);
         push_tenths(sign(0 < count), 5 * count)
     }
 }
 
 // An SNR: so many quarter dB, above or below zero.
-#[derive(Clone, Copy)]
+#[derive(Clone, Copy, PartialEq, Eq, PartialOrd, Ord, Debug)]
 pub struct QuarterDb(pub i8);
 
 impl QuarterDb {
@@ -100,11 +94,7 @@ impl QuarterDb {
     pub fn from_byte(b: u8) -> QuarterDb
         ensures { result.0 ≡ signed_of b }
     {
-        if b < 128 {
-            QuarterDb(b as i8)
-        } else {
-            QuarterDb(-1 - (255 - b) as i8)
-        }
+        QuarterDb(b.cast_signed())
     }
 
     // The ratio in dB, with two decimals.
@@ -112,7 +102,7 @@ impl QuarterDb {
         ensures { result ≡ text_of (snr_text self.0) }
     {
         let count = self.0;
-        push_hundredths(sign(count < 0), 25 * (magnitude(count) as u32))
+        push_hundredths(sign(count < 0), 25 * u32::from(count.unsigned_abs()))
     }
 }
 
@@ -120,5 +110,5 @@ impl QuarterDb {
 pub fn counter_difference(earlier: u16, later: u16) -> u16
     ensures { result ≡ counter_difference earlier later }
 {
-    std::num::wrapping_sub_u16(later, earlier)
+    later.wrapping_sub(earlier)
 }

@@ -1,11 +1,15 @@
 // Why a call is refused: one enum for the whole library. specs/Numbers.antt has the numbers and places, and says when each is given.
 #![tactic(auto)]
 
-ghost use Rattle.std.specs.Prelude.{◌≡◌};
+ghost use Rattle.std.specs.Prelude.{◌≡◌, Some};
 ghost use Rattle.refusal.specs.Numbers.{number_of, place_of};
+ghost use Rattle.refusal.specs.Told.{told};
+
+use std::error::Error;
+use std::fmt;
 
 // A refusal that has a place carries it: a byte of the frame or of the trace from 0, or an argument or a bank from 1.
-#[derive(Clone, Copy)]
+#[derive(Clone, Copy, PartialEq, Eq, Debug)]
 pub enum Refusal {
     ShortFrame,
     UnknownOpcode,
@@ -67,28 +71,38 @@ impl Refusal {
         ensures { result ≡ place_of self }
     {
         match self {
-            Refusal::StrayBit(at) => at,
-            Refusal::UnknownCode(at) => at,
-            Refusal::ArgumentOutside(at) => at,
-            Refusal::TraceFault(at) => at,
-            Refusal::NoWidth(bank) => bank,
-            Refusal::NotNarrowest(bank) => bank,
-            Refusal::ShortFrame => 0,
-            Refusal::UnknownOpcode => 0,
-            Refusal::WrongLength => 0,
-            Refusal::ResponseLength => 0,
-            Refusal::NoRoom => 0,
-            Refusal::NotHeld => 0,
-            Refusal::NotWellFormed => 0,
-            Refusal::BufferSize => 0,
-            Refusal::OutputShort => 0,
-            Refusal::NotAKind => 0,
-            Refusal::ReelCut => 0,
-            Refusal::BothForms => 0,
-            Refusal::OwnersWrong => 0,
-            Refusal::OtherSide => 0,
-            Refusal::ListLength => 0,
-            Refusal::SettingMissing => 0,
+            Refusal::StrayBit(at) | Refusal::UnknownCode(at) => at,
+            Refusal::ArgumentOutside(at) | Refusal::TraceFault(at) => at,
+            Refusal::NoWidth(bank) | Refusal::NotNarrowest(bank) => bank,
+            Refusal::ShortFrame
+            | Refusal::UnknownOpcode
+            | Refusal::WrongLength
+            | Refusal::ResponseLength
+            | Refusal::NoRoom
+            | Refusal::NotHeld
+            | Refusal::NotWellFormed
+            | Refusal::BufferSize
+            | Refusal::OutputShort
+            | Refusal::NotAKind
+            | Refusal::ReelCut
+            | Refusal::BothForms
+            | Refusal::OwnersWrong
+            | Refusal::OtherSide
+            | Refusal::ListLength
+            | Refusal::SettingMissing => 0,
         }
     }
 }
+
+// Its number and its place, in words.
+impl fmt::Display for Refusal {
+    ghost output = { λ why. Some (told why) };
+
+    fn fmt<W: fmt::Write>(&self, f: &mut fmt::Formatter<W>) -> fmt::Result {
+        let number = self.number();
+        let place = self.place();
+        write!(f, "refused {number} at {place}")
+    }
+}
+
+impl Error for Refusal {}

@@ -8,7 +8,6 @@ use borrow.Author.Rules.{rules}
 use lib.ListN.{length}
 use Rattle.reading.specs.Level.{text_of, snr_text}
 use Rattle.reading.proofs.Texts.{snr-length}
-use Rattle.reading.proofs.Signs.{mag-small}
 use Rattle.dump_text.specs.Whole.{filled}
 use Rattle.hoardbutton.specs.Reels.{text_c}
 use Rattle.hoardbutton.proofs.Whole.{abs-small, text-fits, text-shown}
@@ -21,7 +20,7 @@ pub returns : goal.returns
 returns c =
     let a = c.args in
     let fits = c.ranges.quarter_db in
-    let short : length (snr_text a.quarter_db) ≤ 8 = omega (arith, snr-length a.quarter_db (abs-small a.quarter_db (mag-small fits))) in
+    let short : length (snr_text a.quarter_db) ≤ 8 = omega (arith, snr-length a.quarter_db (abs-small a.quarter_db fits.sfits)) in
     let e = text-shown c.text-t.result (snr_text a.quarter_db) (c.text-t.ensures ∙ ap (λ (z : ℤ). text_of (snr_text z)) (to_z-of_z fits)) short in
     let w = c.written.ensures in
     (w.0 ∙ ap (λ (l : List ℕ). text_c l a.out.now) e, w.1 ∙ ap (λ (l : List ℕ). filled l a.out.now) e)

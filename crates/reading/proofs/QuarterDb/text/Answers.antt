@@ -9,4 +9,4 @@ returns c =
     let z = c.args.self.0 in
     let fits : FitsSigned w8 z = search rules in
     let read : to_z w8 (of_z w8 z) ≡ z = to_z-of_z fits in
-    simp (c.magnitude.ensures, read) at (c.push_hundredths.ensures _ c.sign.ensures)
+    simp (c.from.ensures, c.unsigned_abs.ensures.value, read) at (c.push_hundredths.ensures _ c.sign.ensures)
