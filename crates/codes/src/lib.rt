@@ -28,79 +28,48 @@ const LISTS: [[u64; 4]; COUNT] = [
 ];
 // end: lists
 
-fn u32_as_usize(x: u32) -> usize
-    ensures { result ≡ x }
-{
-    x as usize
-}
-
-fn u32_as_u64(x: u32) -> u64
-    ensures { result ≡ x }
-{
-    x as u64
-}
-
 // Whether a list has the code v.
 fn is_listed(list: usize, v: u64) -> bool
     ensures { result ≡ is_in v (get_or lists list []) }
 {
-    if list < COUNT {
-        if v < 256 {
-            let word = LISTS[list][(v / 64) as usize];
-            return (word >> (v % 64)) % 2 == 1;
-        }
-    }
-    false
+    list < COUNT && v < 256 && (LISTS[list][(v / 64) as usize] >> (v % 64)) % 2 == 1
 }
 
 // Whether the field takes v, so far as codes and limits go.
 pub fn is_taken(number: u32, v: u64) -> bool
     ensures { result ≡ takes (codes_of number) v }
 {
-    let codes = number % 0x800;
-    if codes == 0 {
-        return true;
+    match number % 0x800 {
+        0 => true,
+        limit @ 1..=255 => v <= u64::from(limit),
+        list @ 256.. => is_listed((list - 256) as usize, v),
     }
-    if codes < 256 {
-        return v <= u32_as_u64(codes);
-    }
-    is_listed(u32_as_usize(codes - 256), v)
 }
 
 // Whether v has at most w bits.
 fn is_within(w: usize, v: u64) -> bool
     ensures { result ≡ ltb v (2 ^ w) }
 {
-    if w < 64 { v >> w == 0 } else { true }
+    64 <= w || v >> w == 0
 }
 
 // Whether v has at most w bits and the field takes it.
 fn is_fitting(w: usize, number: u32, v: u64) -> bool
     ensures { result ≡ fits w number v }
 {
-    if is_within(w, v) {
-        is_taken(number, v)
-    } else {
-        false
-    }
+    is_within(w, v) && is_taken(number, v)
 }
 
 // Whether the checked builder takes v for the field.
 pub fn is_allowed(number: u32, v: u64) -> bool
     ensures { result ≡ allows number v }
 {
-    let f = table::narrow_field(number);
-    is_fitting(f.w, number, v)
+    is_fitting(table::narrow_field(number).w, number, v)
 }
 
 // Whether the plain builder takes v for the field: a number may be any, since it is masked.
 pub fn is_accepted(number: u32, v: u64) -> bool
     ensures { result ≡ accepts number v }
 {
-    if number / 0x800 % 2 == 1 {
-        let f = table::plain_field(number);
-        is_fitting(f.w, number, v)
-    } else {
-        true
-    }
+    number / 0x800 % 2 == 0 || is_fitting(table::plain_field(number).w, number, v)
 }

@@ -1,11 +1,11 @@
--- What the steps and loops of the code ask: a byte's bits shifted to their place, the loop of `put_sound`, the sum of `get_sound`.
+-- What the steps and loops of the code ask: a byte's bits shifted to their place, the loop of a `Placed` field's `put`, the sum of its `get`.
 -- Assumes nothing.
 use mathlib.Core.Path.{◌≡◌, refl, sym, ap, ap₂, ◌∙◌, subst}
 use mathlib.Core.Logic.{⊎_elim}
 use mathlib.Core.Bool.{Bool, cond}
 use mathlib.Core.List.{List}
 use Prim.Native.Nat.{ℕ, suc, ◌+◌, ◌*◌, ◌/◌, ◌%◌, ◌^◌, ◌≤◌, ◌<◌}
-use native.Mathlib.Nat.{mod-lt, mod-eq_of_lt, one-mul, lt_trans, lt_of_lt_of_le, lt_of_le_of_lt, le-add_left, le_refl, ne_of_lt, ne_of_gt, eq-or-lt_of_le, le_of_suc-le-suc}
+use native.Mathlib.Nat.{mod-lt, mod-eq_of_lt, lt_trans, lt_of_lt_of_le, lt_of_le_of_lt, le-add_left, le_refl, ne_of_lt, ne_of_gt, eq-or-lt_of_le, le_of_suc-le-suc}
 use native.Mathlib.Numerals.{add-one}
 use native.Mathlib.Omega.{arith}
 use lib.Pow.{pow_pos, pow_mono, shl_lt}
@@ -19,13 +19,7 @@ use Rattle.frame.specs.Layout.{bytes, tab, put}
 use Rattle.frame.proofs.OneField.{le-or-lt, rank_lt, part_in, part_low, part-high, top, read_to-lt}
 use Rattle.frame.proofs.Fields.{is-tab, sound-holds}
 
--- `1 << n`
-pub one_shl : (n : ℕ) → n < 8 → 1 * 2 ^ n % 2 ^ 64 ≡ 2 ^ n
-one_shl n h =
-    ap (λ (x : ℕ). x % 2 ^ 64) (one-mul (2 ^ n))
-    ∙ mod-eq_of_lt (lt_of_le_of_lt (pow_mono {i = n} {j = 8} (omega arith)) (lit< tt))
-
--- ---- part_of
+-- ---- a part
 
 -- a byte's bits at their place are a byte
 module _ (f : Field) (s : Sound 16 f) (k x : ℕ) (h : x < 2 ^ bits f k) where
@@ -52,7 +46,7 @@ module _ (f : Field) (s : Sound 16 f) (i : ℕ) (a : f.first ≤ i) (b : i < f.f
     pub part-fits : x * 2 ^ f.lo % 2 ^ 64 < 256
     part-fits = subst (λ (y : ℕ). y < 256) (sym (byte_shl f s d x x_lt)) (byte-lt f s d x x_lt)
 
--- ---- put_sound
+-- ---- put
 
 -- the bytes before i have their parts, and those from i on are as they were
 pub record Upto (f : Field) (v : ℕ) (o out : List ℕ) (i : ℕ) : Type 0 where
@@ -99,7 +93,7 @@ upto-end f v o out i s u h =
     (λ q. u.done j q) (le-or-lt i j))
     ∙ ap (λ (t : Bool). cond t (tab (length o) (λ j. bit_or (bytes o j) (part f v j))) o) (sym (sound-holds 16 f s))
 
--- ---- get_sound
+-- ---- get
 
 module _ (f : Field) (s : Sound 16 f) (b : ℕ → ℕ) (acc k x p : ℕ) (h : k < size f) (e : acc ≡ read_to f b k)
     (ep : p ≡ place f k) (ex : x ≡ b p / 2 ^ f.lo % 2 ^ bits f k) where

@@ -9,7 +9,7 @@ use mathlib.Core.Logic.{⊎_elim}
 use native.Mathlib.Omega.{arith}
 use lib.Pow.{field, mod-mod-pow}
 use lib.Bits.{bit_and, bit_or, and_comm, and_zero_r}
-use borrow.Author.Tests.{le-leb, lt-leb}
+use borrow.Author.Tests.{le-leb}
 use lib.Dec.{T, leb, ltb, eqb, leb→le, ltb→lt, lt→ltb, eqb→eq}
 use lib.ListN.{length, get_or, take}
 use lib.Seq.{ext_get_or, get_or-take, length-take-le}
@@ -49,27 +49,9 @@ pub sound-holds : (len : ℕ) (f : Field) → Sound len f → sound len f ≡ tr
 unfolding sound
 sound-holds len f s = simp (le-leb _ _ s.wide, le-leb _ _ s.ends, le-leb _ _ s.within)
 
--- what is too wide or too long is not sound, and for the rest the bits within a byte decide
-module _ (f : Field) where
-  pub too_wide : 64 < f.w → false ≡ sound 16 f
-  unfolding sound
-  too_wide h = simp (lt-leb _ _ h)
-
-  pub too_long : f.w ≤ 64 → 16 < f.first + size f → false ≡ sound 16 f
-  unfolding sound
-  too_long h l = simp (le-leb _ _ h, lt-leb _ _ l)
-
-  pub too-high : f.w ≤ 64 → f.first + size f ≤ 16 → 8 < f.lo + min 8 f.w → false ≡ sound 16 f
-  unfolding sound
-  too-high h l g = simp (le-leb _ _ h, le-leb _ _ l, lt-leb _ _ g)
-
-  pub by_bits : f.w ≤ 64 → f.first + size f ≤ 16 → (m : ℕ) → m ≡ min 8 f.w → leb (f.lo + m) 8 ≡ sound 16 f
-  unfolding sound
-  by_bits h l m e = simp (le-leb _ _ h, le-leb _ _ l, e)
-
-  -- what the code's test says
-  pub sound-told : {r : Bool} → r ≡ sound 16 f → r ≡ true → Sound 16 f
-  sound-told e q = sound-is 16 f (subst T (sym q ∙ e) tt)
+-- what the code's test says
+pub sound-told : (f : Field) {r : Bool} → r ≡ sound 16 f → r ≡ true → Sound 16 f
+sound-told f e q = sound-is 16 f (subst T (sym q ∙ e) tt)
 
 apart-at : (n : ℕ) (f g : Field) (i : ℕ) → T (apart n f g) → i < n → bit_and (mask f i) (mask g i) ≡ 0
 unfolding apart

@@ -16,7 +16,7 @@ half-once κs a h o u p q i = (same p q i, o.1)
 cmd-status-code-once : Once contracts.CmdStatus.code.ended status.CmdStatus.code.Reads.Pre status.CmdStatus.code.Reads.Learnt
 cmd-status-code-once κs a h o u p q i = (same p q i, o.1)
 
-cmd-status-from-once : Once contracts.CmdStatus.from.ended status.CmdStatus.from.Reads.Pre status.CmdStatus.from.Reads.Learnt
+cmd-status-from-once : Once contracts.CmdStatusFromU8.from.ended status.CmdStatusFromU8.from.Reads.Pre status.CmdStatusFromU8.from.Reads.Learnt
 cmd-status-from-once κs a h o u p q i = (same p q i, o.1)
 
 cmd-status-check-once : Once contracts.CmdStatus.check.ended status.CmdStatus.check.Reads.Pre status.CmdStatus.check.Reads.Learnt
@@ -58,7 +58,7 @@ intr-from-slice-once κs a h o u p q i = (same p q i, o.1)
 intr-new-once : Once contracts.Intr.new.ended status.Intr.new.Reads.Pre status.Intr.new.Reads.Learnt
 intr-new-once κs a h o u p q i = (same p q i, o.1)
 
-intr-from-once : Once contracts.Intr.from.ended status.Intr.from.Reads.Pre status.Intr.from.Reads.Learnt
+intr-from-once : Once contracts.IntrFromU32.from.ended status.IntrFromU32.from.Reads.Pre status.IntrFromU32.from.Reads.Learnt
 intr-from-once κs a h o u p q i = (same p q i, o.1)
 
 intr-new-txrx-once : Once contracts.Intr.new_txrx.ended status.Intr.new_txrx.Reads.Pre status.Intr.new_txrx.Reads.Learnt

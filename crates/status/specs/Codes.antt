@@ -1,16 +1,15 @@
 -- The numbers of the status enums, and what a number says (REFERENCE, "Status and interrupts"). `Unknown` has a number of its own, past those
 -- that the bits can hold.
 -- Assumes nothing.
-use Rattle.std.specs.Prelude.{ℕ, Bool, true, false, List, [], ◌∷◌, get_or}
+use Rattle.std.specs.Prelude.{ℕ, Bool, true, false, List, [], ◌∷◌, get_or, Result, Ok, Err}
 use Rattle.status.specs.declared.CmdStatus.{CmdStatus}
 use Rattle.status.specs.declared.CmdStatus.TheVariants as cmd
 use Rattle.status.specs.declared.ResetSrc.{ResetSrc}
 use Rattle.status.specs.declared.ResetSrc.TheVariants as reset
 use Rattle.status.specs.declared.ChipModeStatus.{ChipModeStatus}
 use Rattle.status.specs.declared.ChipModeStatus.TheVariants as mode
+use Rattle.status.specs.declared.Lr2021Error.{Lr2021Error}
 use Rattle.status.specs.declared.Lr2021Error.TheVariants as error
-use Rattle.status.specs.declared.Checked.{Checked}
-use Rattle.status.specs.declared.Checked.TheVariants as checked
 
 abbrev pub cmd_code : CmdStatus → ℕ
 cmd_code cmd.Fail = 0
@@ -65,9 +64,9 @@ good_cmd cmd.Ok = true
 good_cmd cmd.Data = true
 good_cmd cmd.Unknown = false
 
-abbrev pub check_of : CmdStatus → Checked
-check_of cmd.Fail = checked.Err error.CmdFail
-check_of cmd.PErr = checked.Err error.CmdErr
-check_of cmd.Ok = checked.Ok
-check_of cmd.Data = checked.Ok
-check_of cmd.Unknown = checked.Err error.Unknown
+abbrev pub check_of : CmdStatus → Result (Unit {0}) Lr2021Error
+check_of cmd.Fail = Err error.CmdFail
+check_of cmd.PErr = Err error.CmdErr
+check_of cmd.Ok = Ok tt
+check_of cmd.Data = Ok tt
+check_of cmd.Unknown = Err error.Unknown

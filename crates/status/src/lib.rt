@@ -4,24 +4,17 @@
 
 ghost use Rattle.std.specs.Prelude.{◌≡◌, [], ◌∷◌, ◌+◌, ◌*◌, eqb};
 ghost use Rattle.status.specs.Notation.{byte, raised, is_set, mask_of};
-ghost use Rattle.status.specs.Codes.{cmd_code, reset_code, mode_code, cmd_of, reset_of, mode_of, check_of, good_cmd};
+ghost use Rattle.status.specs.Codes.{cmd_code, reset_code, mode_code, cmd_of, check_of, good_cmd};
 ghost use Rattle.status.specs.Words.{status_of, intr, intr_of, cmd_in, reset_in, mode_in};
 
 use frame::byte_at;
-
-// Two bytes as one number, high byte first.
-fn u16_of(high: u8, low: u8) -> u16
-    ensures { result ≡ 256 * high + low }
-{
-    256 * (high as u16) + low as u16
-}
 
 // Byte i and the next as one number, high byte first.
 pub fn word_at(s: &[u8], i: usize) -> u16
     ensures { result ≡ 256 * byte s.now i + byte s.now (i + 1) }
 {
     if i < s.len() {
-        u16_of(byte_at(s, i), byte_at(s, i + 1))
+        u16::from_be_bytes([byte_at(s, i), byte_at(s, i + 1)])
     } else {
         0
     }
@@ -31,18 +24,18 @@ pub fn word_at(s: &[u8], i: usize) -> u16
 pub fn u32_of(b0: u8, b1: u8, b2: u8, b3: u8) -> u32
     ensures { result ≡ 256 * (256 * (256 * b0 + b1) + b2) + b3 }
 {
-    256 * (256 * (256 * (b0 as u32) + b1 as u32) + b2 as u32) + b3 as u32
+    u32::from_be_bytes([b0, b1, b2, b3])
 }
 
 // Twice a byte, and one bit more.
 pub fn half(whole: u8, bit: u8) -> u16
     ensures { result ≡ 2 * whole + bit }
 {
-    2 * (whole as u16) + bit as u16
+    2 * u16::from(whole) + u16::from(bit)
 }
 
 // Why a command did not do its work.
-#[derive(Clone, Copy)]
+#[derive(Clone, Copy, PartialEq, Eq, Debug)]
 pub enum Lr2021Error {
     Pin,
     Spi,
@@ -53,44 +46,24 @@ pub enum Lr2021Error {
     Unknown,
 }
 
-// What a check of a status finds.
-#[derive(Clone, Copy)]
-pub enum Checked {
-    Ok,
-    Err(Lr2021Error),
-}
-
 // The status that comes first with each command: bits 11-9 the command, 8 the interrupt, 7-4 the reset, 2-0 the mode.
-#[derive(Clone, Copy)]
+#[derive(Clone, Copy, PartialEq, Eq, Default, Debug)]
 pub struct Status(pub u16);
 
 // How the last command went.
-#[derive(Clone, Copy)]
+#[derive(Clone, Copy, PartialEq, Eq, Debug)]
 pub enum CmdStatus {
-    Fail,
-    PErr,
-    Ok,
-    Data,
-    Unknown,
+    Fail = 0,
+    PErr = 1,
+    Ok = 2,
+    Data = 3,
+    Unknown = 8, // bits 11-9 hold no 8
 }
 
-impl CmdStatus {
-    // Its number in the Rust.
-    pub fn code(self) -> u64
-        ensures { result ≡ cmd_code self }
-    {
-        match self {
-            CmdStatus::Fail => 0,
-            CmdStatus::PErr => 1,
-            CmdStatus::Ok => 2,
-            CmdStatus::Data => 3,
-            CmdStatus::Unknown => 8,
-        }
-    }
+impl From<u8> for CmdStatus {
+    ghost from_gives = { λ value status. status ≡ cmd_of value };
 
-    pub fn from(value: u8) -> CmdStatus
-        ensures { result ≡ cmd_of value }
-    {
+    fn from(value: u8) -> CmdStatus {
         match value {
             0 => CmdStatus::Fail,
             1 => CmdStatus::PErr,
@@ -99,43 +72,38 @@ impl CmdStatus {
             _ => CmdStatus::Unknown,
         }
     }
+}
 
-    pub fn check(self) -> Checked
+impl CmdStatus {
+    // Its number in the Rust.
+    pub fn code(self) -> u64
+        ensures { result ≡ cmd_code self }
+    {
+        self as u64
+    }
+
+    pub fn check(self) -> Result<(), Lr2021Error>
         ensures { result ≡ check_of self }
     {
         match self {
-            CmdStatus::Unknown => Checked::Err(Lr2021Error::Unknown),
-            CmdStatus::Fail => Checked::Err(Lr2021Error::CmdFail),
-            CmdStatus::PErr => Checked::Err(Lr2021Error::CmdErr),
-            CmdStatus::Ok => Checked::Ok,
-            CmdStatus::Data => Checked::Ok,
-        }
-    }
-
-    // Whether the command succeeded.
-    fn good(self) -> bool
-        ensures { result ≡ good_cmd self }
-    {
-        match self {
-            CmdStatus::Ok => true,
-            CmdStatus::Data => true,
-            CmdStatus::Fail => false,
-            CmdStatus::PErr => false,
-            CmdStatus::Unknown => false,
+            CmdStatus::Unknown => Err(Lr2021Error::Unknown),
+            CmdStatus::Fail => Err(Lr2021Error::CmdFail),
+            CmdStatus::PErr => Err(Lr2021Error::CmdErr),
+            CmdStatus::Ok | CmdStatus::Data => Ok(()),
         }
     }
 }
 
 // What reset the chip last.
-#[derive(Clone, Copy)]
+#[derive(Clone, Copy, PartialEq, Eq, Debug)]
 pub enum ResetSrc {
-    Cleared,
-    Analog,
-    External,
-    Watchdog,
-    Iocd,
-    Rtc,
-    Unknown,
+    Cleared = 0,
+    Analog = 1,
+    External = 2,
+    Watchdog = 4,
+    Iocd = 5,
+    Rtc = 6,
+    Unknown = 16,
 }
 
 impl ResetSrc {
@@ -143,45 +111,20 @@ impl ResetSrc {
     pub fn code(self) -> u64
         ensures { result ≡ reset_code self }
     {
-        match self {
-            ResetSrc::Cleared => 0,
-            ResetSrc::Analog => 1,
-            ResetSrc::External => 2,
-            ResetSrc::Watchdog => 4,
-            ResetSrc::Iocd => 5,
-            ResetSrc::Rtc => 6,
-            ResetSrc::Unknown => 16,
-        }
-    }
-
-    // A number past 6 has no name, and 3 has none: taken for 3 it leaves seven cases, which become a table without a branch.
-    fn from(value: u8) -> ResetSrc
-        ensures { result ≡ reset_of value }
-    {
-        let near = if 6 < value { 3 } else { value };
-        match near {
-            0 => ResetSrc::Cleared,
-            1 => ResetSrc::Analog,
-            2 => ResetSrc::External,
-            3 => ResetSrc::Unknown,
-            4 => ResetSrc::Watchdog,
-            5 => ResetSrc::Iocd,
-            6 => ResetSrc::Rtc,
-            _ => ResetSrc::Unknown,
-        }
+        self as u64
     }
 }
 
 // What the chip is doing.
-#[derive(Clone, Copy)]
+#[derive(Clone, Copy, PartialEq, Eq, Debug)]
 pub enum ChipModeStatus {
-    Sleep,
-    Rc,
-    Xosc,
-    Fs,
-    Rx,
-    Tx,
-    Unknown,
+    Sleep = 0,
+    Rc = 1,
+    Xosc = 2,
+    Fs = 3,
+    Rx = 4,
+    Tx = 5,
+    Unknown = 8, // bits 2-0 hold no 8
 }
 
 impl ChipModeStatus {
@@ -189,29 +132,7 @@ impl ChipModeStatus {
     pub fn code(self) -> u64
         ensures { result ≡ mode_code self }
     {
-        match self {
-            ChipModeStatus::Sleep => 0,
-            ChipModeStatus::Rc => 1,
-            ChipModeStatus::Xosc => 2,
-            ChipModeStatus::Fs => 3,
-            ChipModeStatus::Rx => 4,
-            ChipModeStatus::Tx => 5,
-            ChipModeStatus::Unknown => 8,
-        }
-    }
-
-    fn from(value: u8) -> ChipModeStatus
-        ensures { result ≡ mode_of value }
-    {
-        match value {
-            0 => ChipModeStatus::Sleep,
-            1 => ChipModeStatus::Rc,
-            2 => ChipModeStatus::Xosc,
-            3 => ChipModeStatus::Fs,
-            4 => ChipModeStatus::Rx,
-            5 => ChipModeStatus::Tx,
-            _ => ChipModeStatus::Unknown,
-        }
+        self as u64
     }
 }
 
@@ -219,7 +140,7 @@ impl Status {
     pub fn from_array(bytes: [u8; 2]) -> Status
         ensures { result ≡ status_of bytes }
     {
-        Status::from_slice(&bytes)
+        Status(u16::from_be_bytes(bytes))
     }
 
     // A byte that the slice lacks is 0; those past the second are not looked at.
@@ -239,7 +160,7 @@ impl Status {
     pub fn is_ok(self) -> bool
         ensures { result ≡ good_cmd (cmd_in self.0) }
     {
-        self.cmd().good()
+        matches!(self.cmd(), CmdStatus::Ok | CmdStatus::Data)
     }
 
     // Whether an interrupt is pending.
@@ -249,19 +170,39 @@ impl Status {
         self.0 & 0x0100 != 0
     }
 
+    // A number past 6 has no name, and 3 has none: taken for 3 it leaves seven cases, which become a table without a branch.
     pub fn reset_src(self) -> ResetSrc
         ensures { result ≡ reset_in self.0 }
     {
-        ResetSrc::from((self.0 / 16 % 16) as u8)
+        let value = self.0 / 16 % 16;
+        let near = if 6 < value { 3 } else { value };
+        match near {
+            0 => ResetSrc::Cleared,
+            1 => ResetSrc::Analog,
+            2 => ResetSrc::External,
+            3 => ResetSrc::Unknown,
+            4 => ResetSrc::Watchdog,
+            5 => ResetSrc::Iocd,
+            6 => ResetSrc::Rtc,
+            _ => ResetSrc::Unknown,
+        }
     }
 
     pub fn chip_mode(self) -> ChipModeStatus
         ensures { result ≡ mode_in self.0 }
     {
-        ChipModeStatus::from((self.0 % 8) as u8)
+        match self.0 % 8 {
+            0 => ChipModeStatus::Sleep,
+            1 => ChipModeStatus::Rc,
+            2 => ChipModeStatus::Xosc,
+            3 => ChipModeStatus::Fs,
+            4 => ChipModeStatus::Rx,
+            5 => ChipModeStatus::Tx,
+            _ => ChipModeStatus::Unknown,
+        }
     }
 
-    pub fn check(self) -> Checked
+    pub fn check(self) -> Result<(), Lr2021Error>
         ensures { result ≡ check_of (cmd_in self.0) }
     {
         self.cmd().check()
@@ -366,8 +307,16 @@ fn fsk_txrx() -> u32
 }
 
 // Interrupts that are raised, or that are to be: a bit for each.
-#[derive(Clone, Copy)]
+#[derive(Clone, Copy, PartialEq, Eq, Default, Debug)]
 pub struct Intr(pub u32);
+
+impl From<u32> for Intr {
+    ghost from_gives = { λ value raised. raised ≡ intr value };
+
+    fn from(value: u32) -> Intr {
+        Intr::new(value)
+    }
+}
 
 impl Intr {
     // A byte that the slice lacks is 0; those past the fourth are not looked at.
@@ -391,12 +340,6 @@ impl Intr {
         ensures { result ≡ intr value }
     {
         Intr(value)
-    }
-
-    pub fn from(value: u32) -> Intr
-        ensures { result ≡ intr value }
-    {
-        Intr::new(value)
     }
 
     // A packet sent or received, or the time for it over.

@@ -2,7 +2,7 @@
 // Its numbers are proved equal to the rows of specs/Table.antt.
 #![tactic(auto)]
 
-ghost use Rattle.std.specs.Prelude.{◌≡◌};
+ghost use Rattle.std.specs.Prelude.{◌≡◌, ◌/◌, ◌%◌, eqb};
 ghost use Rattle.frame.specs.Layout.{put};
 ghost use Rattle.table.specs.Number.{narrow_of, plain_of};
 ghost use Rattle.table.specs.Table.{forms, rows, row_at, yes_no};
@@ -139,28 +139,32 @@ pub fn forms() -> [[u64; 2]; PAIRS]
     kinds::FORMS
 }
 
-// A field as the checked builder and the decoder have it.
-pub fn narrow_field(number: u32) -> Field
-    ensures { result ≡ narrow_of number }
+// The field that a number says, w bits wide.
+fn field(number: u32, w: u32) -> Field
+    ensures { result ≡ record { first = number / 268435456; lo = number / 16777216 % 8; w = w; le = eqb (number / 134217728 % 2) 1 } }
 {
     Field {
         first: (number / 0x1000_0000) as usize,
         lo: (number / 0x100_0000 % 8) as usize,
-        w: (number / 0x1_0000 % 256) as usize,
+        w: w as usize,
         le: number / 0x800_0000 % 2 == 1,
     }
 }
 
+// A field as the checked builder and the decoder have it.
+#[tactic(auto, unfolding(crate::specs::Number::narrow_of))]
+pub fn narrow_field(number: u32) -> Field
+    ensures { result ≡ narrow_of number }
+{
+    field(number, number / 0x1_0000 % 256)
+}
+
 // A field as the plain builder has it.
+#[tactic(auto, unfolding(crate::specs::Number::plain_of))]
 pub fn plain_field(number: u32) -> Field
     ensures { result ≡ plain_of number }
 {
-    Field {
-        first: (number / 0x1000_0000) as usize,
-        lo: (number / 0x100_0000 % 8) as usize,
-        w: (number / 0x1_0000 % 256 + number / 0x1000 % 16) as usize,
-        le: number / 0x800_0000 % 2 == 1,
-    }
+    field(number, number / 0x1_0000 % 256 + number / 0x1000 % 16)
 }
 
 // The value v, cut to the field's plain width and ORed into the frame.
@@ -174,5 +178,5 @@ pub fn put_plain(cmd: &mut [u8], number: u32, v: u64)
 pub fn yes_no(b: bool) -> u64
     ensures { result ≡ yes_no b }
 {
-    if b { 1 } else { 0 }
+    u64::from(b)
 }

@@ -24,10 +24,8 @@ pub fn put_text(out: &mut [u8], at: usize, text: &[u8]) -> usize
     ensures { Puts text.now at out.old result out.new }
 {
     let mut to = at;
-    let mut i: usize = 0;
-    while i < text.len() {
-        to = put_byte(out, to, text[i]);
-        i += 1;
+    for b in text {
+        to = put_byte(out, to, *b);
     }
     to
 }
@@ -36,7 +34,7 @@ pub fn put_text(out: &mut [u8], at: usize, text: &[u8]) -> usize
 pub fn last_digit(n: u64) -> u8
     ensures { result ≡ digit n }
 {
-    48 + (n % 10) as u8
+    b'0' + (n % 10) as u8
 }
 
 pub fn put_decimal(out: &mut [u8], at: usize, n: u64) -> usize
@@ -63,12 +61,8 @@ pub fn put_word(out: &mut [u8], at: usize, word: &[u8]) -> usize
 pub fn put_piece(out: &mut [u8], at: usize, b: u8, numbers: &[u64]) -> usize
     ensures { Puts (piece b numbers.now) at out.old result out.new }
 {
-    if b < b'0' {
-        return put_byte(out, at, b);
-    }
-    let j = (b - b'0') as usize;
-    if j < numbers.len() {
-        put_decimal(out, at, numbers[j])
+    if b'0' <= b && usize::from(b - b'0') < numbers.len() {
+        put_decimal(out, at, numbers[usize::from(b - b'0')])
     } else {
         put_byte(out, at, b)
     }
@@ -78,10 +72,8 @@ pub fn put_form(out: &mut [u8], at: usize, form: &[u8], numbers: &[u64]) -> usiz
     ensures { Puts (filled form.now numbers.now []) at out.old result out.new }
 {
     let mut to = at;
-    let mut i: usize = 0;
-    while i < form.len() {
-        to = put_piece(out, to, form[i], numbers);
-        i += 1;
+    for b in form {
+        to = put_piece(out, to, *b, numbers);
     }
     to
 }

@@ -11,7 +11,7 @@ use cmd_lora::{LoraBw, LoraCr, Ordering};
 use reading::{HalfDbm, QuarterDb, Text, counter_difference};
 use refusal::Refusal;
 use rx_bw::rx_bw_tenths;
-use status::{Checked, Intr, Lr2021Error, Status};
+use status::{Intr, Lr2021Error, Status};
 
 // The answer for an operation on a slice of the payload; empty for any other.
 pub fn read_slice(op: u8, s: &[u8], p: &[u8]) -> Answer {
@@ -58,10 +58,10 @@ fn put_status(a: Answer, s: Status) -> Answer {
         .byte(checked(s.check()))
 }
 
-fn checked(c: Checked) -> u8 {
+fn checked(c: Result<(), Lr2021Error>) -> u8 {
     match c {
-        Checked::Ok => 0,
-        Checked::Err(e) => error(e),
+        Ok(()) => 0,
+        Err(e) => error(e),
     }
 }
 

@@ -1,22 +1,26 @@
-use mathlib.Core.Path.{ap, ◌∙◌}
-use mathlib.Core.List.{[]}
-use Prim.Native.Nat.{ℕ}
-use lib.ListN.{get_or}
+use mathlib.Core.Path.{◌≡◌}
+use Prim.Native.Nat.{◌%◌, ◌<◌, ◌≤◌}
+use native.Mathlib.Omega.{arith}
 use borrow.Author.Tests.{eq-eqb, ne_eqb, lt-ltb, le-ltb}
-use Rattle.table.specs.Codes.{takes, is_in, lists}
+use Rattle.table.specs.Codes.{takes}
 use Rattle.codes.proofs.is_taken.Goals as goal
 
-pub returns-then-codes-eq0 : goal.returns-then-codes-eq0
+pub returns-in-0 : goal.returns-in-0
 unfolding takes
-returns-then-codes-eq0 c = simp (eq-eqb _ _ c.if-codes-eq0.true)
+returns-in-0 c = simp (eq-eqb _ _ c.in-0.is)
 
-pub returns-then-codes-lt256 : goal.returns-then-codes-lt256
+pub returns-in-1-to-255 : goal.returns-in-1-to-255
 unfolding takes
-returns-then-codes-lt256 c = simp (ne_eqb _ _ c.if-codes-eq0.false, lt-ltb _ _ c.if-codes-lt256.true, c.u32_as_u64.ensures)
+returns-in-1-to-255 c =
+    let n = c.args.number % 2048 in
+    let some : n ≡ 0 → ⊥ = (λ e. omega arith) in
+    let limit : n < 256 = omega arith in
+    simp (ne_eqb n 0 some, lt-ltb n 256 limit, c.from.ensures)
 
-pub returns : goal.returns
+pub returns-in-256-to-4294967295 : goal.returns-in-256-to-4294967295
 unfolding takes
-returns c =
-    let a = c.args in
-    simp (ne_eqb _ _ c.if-codes-eq0.false, le-ltb _ _ c.if-codes-lt256.false)
-    (c.is_listed.ensures ∙ ap (λ (l : ℕ). is_in a.v (get_or lists l [])) c.u32_as_usize.ensures)
+returns-in-256-to-4294967295 c =
+    let n = c.args.number % 2048 in
+    let some : n ≡ 0 → ⊥ = (λ e. omega arith) in
+    let list : 256 ≤ n = omega arith in
+    simp (ne_eqb n 0 some, le-ltb n 256 list) c.is_listed.ensures

@@ -1,10 +1,7 @@
--- the first i bytes of the form stand there, filled in
-use Rattle.std.proofs.Common.{◌-◌, ◌≤◌, [], length, take}
+-- the bytes of the form before the index stand there, filled in
+use Rattle.std.proofs.Common.{[], take}
 use Rattle.texts.specs.Written.{Puts, filled}
 use Rattle.texts.proofs.put_form.Given as goal
 
-abbrev pub invariant-loop-i : goal.invariant-loop-i
-invariant-loop-i l = (l.i ≤ length l.form) × Puts (filled (take l.i l.form) l.numbers []) l.at l.fn.out l.to l.out
-
-abbrev pub decreases-loop-i : goal.decreases-loop-i
-decreases-loop-i l = length l.form - l.i
+abbrev pub invariant-loop-b : goal.invariant-loop-b
+invariant-loop-b l = Puts (filled (take l.b-index l.form) l.numbers []) l.at l.fn.out l.to l.out

@@ -1,10 +1,7 @@
--- the first i bytes stand there
-use Rattle.std.proofs.Common.{◌-◌, ◌≤◌, length, take}
+-- the bytes before the index stand there
+use Rattle.std.proofs.Common.{take}
 use Rattle.texts.specs.Written.{Puts}
 use Rattle.texts.proofs.put_text.Given as goal
 
-abbrev pub invariant-loop-i : goal.invariant-loop-i
-invariant-loop-i l = (l.i ≤ length l.text) × Puts (take l.i l.text) l.at l.fn.out l.to l.out
-
-abbrev pub decreases-loop-i : goal.decreases-loop-i
-decreases-loop-i l = length l.text - l.i
+abbrev pub invariant-loop-b : goal.invariant-loop-b
+invariant-loop-b l = Puts (take l.b-index l.text) l.at l.fn.out l.to l.out
