@@ -10,12 +10,12 @@ use Rattle.frame.specs.Layout.{mask_of, reads, tab, tab_from}
 use Rattle.table.specs.Number.{narrow_of, narrows_of}
 use Rattle.table.specs.Codes.{is_in, lists, takes}
 use Rattle.table.specs.Laid.{find}
+use Rattle.std.specs.Prelude.{Ok, Err}
 use Rattle.refusal.specs.declared.Refusal.TheVariants.{OutputShort}
 use Rattle.reading.specs.Decimal.{decimal, digits}
 use Rattle.decoder.specs.Decoding.{answered, decode, judged, known, lacking, sought, stray}
 use Rattle.reel.specs.Reel.{unreel, unreel_by}
 use Rattle.texts.specs.Words.{word}
-use Rattle.dump_text.specs.declared.Dumped.TheVariants.{Refused, Text}
 use Rattle.dump_text.specs.Text.{blanked, line_of, text_from, text_of}
 use Rattle.dump_text.specs.Whole.{dumped, filled}
 
@@ -40,6 +40,6 @@ refused-printed = refl
 
 -- an output of 50 bytes keeps the last four; 46 hold the text, 45 do not
 pub reel-dumped : (filled (text_of reel) (replicate 50 7) ≡ text ++ replicate 4 7)
-    × (dumped (text_of reel) (replicate 46 7) ≡ Text 46)
-    × (dumped (text_of reel) (replicate 45 7) ≡ Refused OutputShort)
+    × (dumped (text_of reel) (replicate 46 7) ≡ Ok 46)
+    × (dumped (text_of reel) (replicate 45 7) ≡ Err OutputShort)
 reel-dumped = rw reel-printed (refl, refl, refl)

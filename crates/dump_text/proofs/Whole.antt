@@ -9,12 +9,12 @@ use lib.Dec.{T, leb}
 use lib.ListN.{length, take, drop, get_or, length-append, length-drop, drop_of_length-le}
 use lib.Seq.{drop-cons, drop-drop, drop-append_seam, drop_at, length-take-le, take-append_seam, take-add, take_all, take_at, take-length}
 use borrow.Author.Tests.{lt-ltb, le-leb, lt-leb}
+use Rattle.std.specs.Prelude.{Ok, Err}
 use Rattle.refusal.specs.declared.Refusal.TheVariants.{ReelCut, OutputShort}
 use Rattle.decoder.specs.Decoding.{refuses, decode}
 use Rattle.reel.specs.Reel.{unreel}
 use Rattle.dump_text.specs.Text.{line_of, text_at, text_of}
 use Rattle.dump_text.specs.declared.Passed.{Passed}
-use Rattle.dump_text.specs.declared.Dumped.TheVariants.{Text, Refused}
 use Rattle.dump_text.specs.Parts.{Lines, none, line, goes_on, lines_from, lines_of, Passes}
 use Rattle.dump_text.specs.Whole.{dumped, filled, laid_at, Lays}
 use Rattle.dump_text.proofs.Parts.{text-nil, part-text, part-goes}
@@ -220,8 +220,8 @@ module _ (text first out : List ℕ) (n : ℕ) (dry : Lays text false first n ou
     fitting : leb (length text) (length first) ≡ true
     fitting = le-leb (length text) (length first) (omega (arith, dry-room, length-dry))
 
-    pub dumped-text : Text n ≡ dumped text first
-    dumped-text = ap Text is-long ∙ sym (simp fitting)
+    pub dumped-text : Ok n ≡ dumped text first
+    dumped-text = ap Ok is-long ∙ sym (simp fitting)
 
     pub filled-text : (m : ℕ) (last : List ℕ) → Lays text true out m last → last ≡ filled text first
     filled-text m last y = y.stands ∙ ap (λ (o : List ℕ). text ++ drop (length text) o) dry.stands ∙ sym (simp fitting)
@@ -230,7 +230,7 @@ module _ (text first out : List ℕ) (n : ℕ) (dry : Lays text false first n ou
     over : leb (length text) (length first) ≡ false
     over = lt-leb (length text) (length first) (dry.longer (omega (arith, length-dry)))
 
-    pub dumped-short : Refused OutputShort ≡ dumped text first
+    pub dumped-short : Err OutputShort ≡ dumped text first
     dumped-short = sym (simp over)
 
     pub filled-short : out ≡ filled text first

@@ -1,13 +1,12 @@
 -- A whole text in one output (REFERENCE, "Dump" and "Refusals").
 -- Assumes nothing.
-use Rattle.std.specs.Prelude.{ℕ, ◌+◌, ◌≤◌, ◌<◌, ◌≡◌, Bool, cond, List, ◌++◌, leb, length, take, drop}
+use Rattle.std.specs.Prelude.{ℕ, ◌+◌, ◌≤◌, ◌<◌, ◌≡◌, Bool, cond, Result, Ok, Err, List, ◌++◌, leb, length, take, drop}
+use Rattle.refusal.specs.declared.Refusal.{Refusal}
 use Rattle.refusal.specs.declared.Refusal.TheVariants.{OutputShort}
-use Rattle.dump_text.specs.declared.Dumped.{Dumped}
-use Rattle.dump_text.specs.declared.Dumped.TheVariants.{Text, Refused}
 
 -- an output shorter than the text is refused
-abbrev pub dumped : List ℕ → List ℕ → Dumped
-dumped text out = cond (leb (length text) (length out)) (Text (length text)) (Refused OutputShort)
+abbrev pub dumped : List ℕ → List ℕ → Result ℕ Refusal
+dumped text out = cond (leb (length text) (length out)) (Ok (length text)) (Err OutputShort)
 
 -- the text, and behind it the output as it was; all of it as it was where the text does not fit
 abbrev pub filled : List ℕ → List ℕ → List ℕ

@@ -76,10 +76,8 @@ fn put_arguments(out: &mut [u8], at: usize, args: &[u64]) -> usize
     ensures { Puts (blanked args.now) at out.old result out.new }
 {
     let mut to = at;
-    let mut j: usize = 0;
-    while j < args.len() {
-        to = put_number(out, to, args[j]);
-        j += 1;
+    for &n in args {
+        to = put_number(out, to, n);
     }
     to
 }
@@ -153,11 +151,7 @@ pub fn line(index: u64, frame: &[u8], out: &mut [u8]) -> usize
 fn goes_on(room: usize, index: u64) -> bool
     ensures { result ≡ goes_on room index }
 {
-    if room < LONGEST {
-        false
-    } else {
-        index < u64::MAX
-    }
+    LONGEST <= room && index < u64::MAX
 }
 
 // Puts the lines of the frames that `input` begins with at the start of `out`, from an index on. A frame that the input ends in is left for the
@@ -204,13 +198,6 @@ pub fn pass(index: u64, input: &[u8], more: bool, out: &mut [u8]) -> Passed
 
 // ---- a whole text in one output
 
-// What a dump into one output gives: the bytes of its text, or why there is none.
-#[derive(Clone, Copy)]
-pub enum Dumped {
-    Text(usize),
-    Refused(Refusal),
-}
-
 // Puts a part of a text at its place, if asked to.
 fn lay_part(part: &[u8], out: &mut [u8], at: usize, write: bool)
     requires { at + length part.now ≤ length out.old }
@@ -245,15 +232,15 @@ fn lay(reel: &[u8], out: &mut [u8], write: bool) -> usize
     at
 }
 
-// The text of a reel at the start of `out`, or a refusal where the output is too short.
-pub fn dump(reel: &[u8], out: &mut [u8]) -> Dumped
+// The text of a reel at the start of `out`, and how long it is; or a refusal where the output is too short.
+pub fn dump(reel: &[u8], out: &mut [u8]) -> Result<usize, Refusal>
     ensures value { result ≡ dumped (text_of reel.now) out.old }
     ensures out_after { out.new ≡ filled (text_of reel.now) out.old }
 {
     let n = lay(reel, out, false);
-    if n <= out.len() {
-        lay(reel, out, true);
-        return Dumped::Text(n);
+    if out.len() < n {
+        return Err(Refusal::OutputShort);
     }
-    Dumped::Refused(Refusal::OutputShort)
+    lay(reel, out, true);
+    Ok(n)
 }

@@ -6,10 +6,10 @@ use Prim.Native.Nat.{ℕ, ◌<◌}
 use native.Mathlib.Omega.{arith}
 use mathlib.Core.Logic.{◌⊎◌, inl, inr}
 use lib.ListN.{length}
+use Rattle.std.specs.Prelude.{Result, Ok, Err}
+use Rattle.refusal.specs.declared.Refusal.{Refusal}
 use Rattle.refusal.specs.declared.Refusal.TheVariants.{BufferSize, TraceFault}
 use Rattle.refusal.specs.Numbers.{number_of}
-use Rattle.dump_text.specs.declared.Dumped.{Dumped}
-use Rattle.dump_text.specs.declared.Dumped.TheVariants as dump
 use Rattle.dump_text.specs.Whole.{dumped, filled}
 use Rattle.dump_text.proofs.Keeps.{refused-keeps as dump-keeps}
 use Rattle.book.specs.declared.Answer.{Answer}
@@ -35,9 +35,9 @@ use Rattle.hoardbutton.specs.Reels.{dump_c, text_c}
 pub text-keeps : (text out : List ℕ) → 0 < (text_c text out).refusal → filled text out ≡ out
 text-keeps text out = by (dumped text out) refl
   where
-    by : (d : Dumped) → dumped text out ≡ d → 0 < (dump_c d).refusal → filled text out ≡ out
-    by (dump.Text n) e q = absurd (omega arith)
-    by (dump.Refused x) e q = dump-keeps text out x e
+    by : (d : Result ℕ Refusal) → dumped text out ≡ d → 0 < (dump_c d).refusal → filled text out ≡ out
+    by (Ok n) e q = absurd (omega arith)
+    by (Err x) e q = dump-keeps text out x e
 
 -- `hb_book_make` and its like
 pub book-keeps : (c : Call) (b : List ℕ) → Bytes b → 0 < (answer_c (after c b).answer).refusal → ((after c b).output ≡ lent_to c) × ((after c b).bytes ≡ b)

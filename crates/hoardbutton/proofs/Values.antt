@@ -20,8 +20,7 @@ use Rattle.settings.specs.Settings.{slot_for}
 use Rattle.reel.specs.Reel.{reel_of}
 use Rattle.contents.specs.Frames.{held}
 use Rattle.contents.specs.Contents.{Contents, holds, refused, room_of}
-use Rattle.dump_text.specs.declared.Dumped.{Dumped}
-use Rattle.dump_text.specs.declared.Dumped.TheVariants as dump
+use Rattle.std.specs.Prelude.{Result, Ok, Err}
 use Rattle.dump_text.specs.Whole.{filled}
 use Rattle.book.specs.declared.Answer.{Answer}
 use Rattle.book.specs.declared.Answer.TheVariants.{Done, Refused}
@@ -77,9 +76,9 @@ pub banks-told : (a : widths.Answer) → Told (banks_c a)
 banks-told (banks.Done n) = done-told n
 banks-told (banks.Refused x) = refused-told x
 
-pub text-told : (d : Dumped) → Told (dump_c d)
-text-told (dump.Text n) = done-told n
-text-told (dump.Refused x) = refused-told x
+pub text-told : (d : Result ℕ Refusal) → Told (dump_c d)
+text-told (Ok n) = done-told n
+text-told (Err x) = refused-told x
 
 pub profile-told : (a : locker.Answer) → Told (profile_c a)
 profile-told profile.Yes = done-told 0

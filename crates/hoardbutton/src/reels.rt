@@ -6,8 +6,8 @@ ghost use Rattle.dump_text.specs.Whole.{filled};
 ghost use Rattle.hoardbutton.specs.Reels.{step_c, dump_c, text_c};
 
 use crate::answers::{HbAnswer, done, refused};
-use dump_text::Dumped;
 use reel::{Cursor, Step};
+use refusal::Refusal;
 
 // The bounds of the next frame with the place behind it; or that the reel has ended; or a refusal.
 #[repr(C)]
@@ -56,12 +56,12 @@ pub extern "C" fn hb_reel_step(reel: &[u8], at: u64) -> HbStep
     stepped(place.step(reel))
 }
 
-fn answered(d: Dumped) -> HbAnswer
+fn answered(d: Result<usize, Refusal>) -> HbAnswer
     ensures { result ≡ dump_c d }
 {
     match d {
-        Dumped::Text(n) => done(n as u64),
-        Dumped::Refused(why) => refused(why),
+        Ok(n) => done(n as u64),
+        Err(why) => refused(why),
     }
 }
 
