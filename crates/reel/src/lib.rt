@@ -8,13 +8,13 @@ ghost use Rattle.reel.specs.Reel.{step_at};
 use refusal::Refusal;
 
 // A place in a reel.
-#[derive(Clone, Copy)]
+#[derive(Clone, Copy, PartialEq, Eq, Debug)]
 pub struct Cursor {
     pub at: usize,
 }
 
 // What a step finds: the bounds of the next frame with the place behind it, the end, or why there is no frame.
-#[derive(Clone, Copy)]
+#[derive(Clone, Copy, PartialEq, Eq, Debug)]
 pub enum Step {
     Frame {
         start: usize,
@@ -23,12 +23,6 @@ pub enum Step {
     },
     End,
     Refused(Refusal),
-}
-
-fn size(x: u8) -> usize
-    ensures { result ≡ x }
-{
-    x as usize
 }
 
 impl Cursor {
@@ -50,7 +44,7 @@ impl Cursor {
         if reel.len() == at {
             return Step::End;
         }
-        let n = size(reel[at]);
+        let n = usize::from(reel[at]);
         let start = at + 1;
         if n <= reel.len() - start {
             let end = start + n;

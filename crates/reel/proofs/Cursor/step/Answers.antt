@@ -12,7 +12,7 @@ pub returns-then-reel-at-2 : goal.returns-then-reel-at-2
 returns-then-reel-at-2 c = sym (step_end _ _ (omega arith))
 
 pub returns-then-n-reel : goal.returns-then-n-reel
-returns-then-n-reel c = sym (step-frame _ _ (omega arith) _ c.size-n.ensures (omega arith))
+returns-then-n-reel c = sym (step-frame _ _ (omega arith) _ c.from-n.ensures (omega arith))
 
 pub returns-else-n-reel : goal.returns-else-n-reel
-returns-else-n-reel c = sym (step_cut _ _ (omega arith) _ c.size-n.ensures (omega arith))
+returns-else-n-reel c = sym (step_cut _ _ (omega arith) _ c.from-n.ensures (omega arith))
