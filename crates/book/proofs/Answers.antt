@@ -45,7 +45,7 @@ lack_in (reading k vs) = 13
 lack_in (refuses x) = number_of x
 
 -- and so says the code's own word for it
-pub declined-answers : (x : Reading) → number (declined_of (decoded x).answer) ≡ lack_in x
+pub declined-answers : (x : Reading) → number (declined_of (decoded x)) ≡ lack_in x
 unfolding decoded
 declined-answers (reading k vs) = refl
 declined-answers (refuses x) = refl

@@ -1,11 +1,10 @@
 -- The calls on a plain list of frames: no bytes of a book, no offsets. Each takes the lent output and the room, in bytes of frames, and gives
 -- its answer, the output and the list (REFERENCE, "Book").
 -- Assumes nothing.
-use Rattle.std.specs.Prelude.{ℕ, cond, List, [], ◌∷◌, ◌++◌, eqb, leb, ltb, length, drop}
+use Rattle.std.specs.Prelude.{ℕ, cond, List, [], ◌∷◌, ◌++◌, eqb, leb, ltb, length, drop, Result, Ok, Err}
 use Rattle.refusal.specs.declared.Refusal.{Refusal}
 use Rattle.refusal.specs.declared.Refusal.TheVariants.{NoRoom, NotHeld, OutputShort, NotAKind}
-use Rattle.decoder.specs.declared.Answer as decoder
-use Rattle.decoder.specs.declared.Answer.TheVariants as decoded
+use Rattle.decoder.specs.declared.Decoded.{Decoded}
 use Rattle.decoder.specs.Decoding.{decode}
 use Rattle.reel.specs.Reel.{reel_of}
 use Rattle.contents.specs.Frames.{flat, held}
@@ -28,9 +27,9 @@ abbrev pub become : List ℕ → List (List ℕ) → Turn
 become o fs = record { answer = Done 0; output = o; frames = fs }
 
 -- Why a frame is no setting, by the decoder's answer: its kind is an action's, or it does not decode.
-abbrev pub declined_of : decoder.Answer → Answer
-declined_of (decoded.Kind k) = Refused NotAKind
-declined_of (decoded.Refused x) = Refused x
+abbrev pub declined_of : Result Decoded Refusal → Answer
+declined_of (Ok d) = Refused NotAKind
+declined_of (Err x) = Refused x
 
 -- ---- the list
 

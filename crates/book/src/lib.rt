@@ -77,12 +77,12 @@ pub fn ready_to_edit(book: &[u8]) -> Answer
 }
 
 // Why a frame is no setting, by the decoder's answer: its refusal, or that the kind is an action.
-fn declined(answer: decoder::Answer) -> Answer
+fn declined(answer: Result<decoder::Decoded, Refusal>) -> Answer
     ensures { result ≡ declined_of answer }
 {
     match answer {
-        decoder::Answer::Kind(_) => Answer::Refused(Refusal::NotAKind),
-        decoder::Answer::Refused(why) => Answer::Refused(why),
+        Ok(_) => Answer::Refused(Refusal::NotAKind),
+        Err(why) => Answer::Refused(why),
     }
 }
 
@@ -213,12 +213,11 @@ pub fn put(book: &mut [u8], frame: &[u8]) -> Answer
     let Answer::Done(_) = found else {
         return found;
     };
-    let decoded = decoder::decode(frame);
-    let answer = decoded.answer;
-    let decoder::Answer::Kind(kind) = answer else {
+    let answer = decoder::decode(frame);
+    let Ok(decoded) = answer else {
         return declined(answer);
     };
-    let slot = slot_for(kind);
+    let slot = slot_for(decoded.kind);
     if slot < table::SETTINGS {
         return put_setting(book, frame, slot);
     }

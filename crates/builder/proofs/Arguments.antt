@@ -14,10 +14,9 @@ use Rattle.frame.specs.Layout.{bytes, tab, put, puts}
 use Rattle.frame.proofs.Fields.{length-tab}
 use Rattle.table.specs.Table.{count_of, numbers_of}
 use Rattle.table.proofs.Cells.{numbers_more, numbers-past}
-use Rattle.builder.specs.declared.Misfit.TheVariants.{None, At}
-use Rattle.builder.specs.declared.Way.{Way}
+use Rattle.std.specs.Prelude.{Some, None}
 use Rattle.builder.specs.Building.{first_misfit}
-use Rattle.builder.specs.Ways.{field_by, fields_by}
+use Rattle.builder.specs.Ways.{fields_by}
 use Rattle.builder.proofs.Apart.{at_none}
 
 pub length-put : (s : List ℕ) (f : Field) (v : ℕ) → length (put s f v) ≡ length s
@@ -31,52 +30,52 @@ length-put s f v = go (sound 16 f)
 module _ (row : List ℕ) (whole : length row ≡ 13) (few : count_of row ≤ 9) where
   -- ---- packed
 
-  pub packs-more : (way : Way) (args out next : List ℕ) (f : Field) (j : ℕ) → j < count_of row → length args ≡ count_of row → f ≡ field_by way (get_or row (4 + j) 0)
+  pub packs-more : (field : ℕ → Field) (args out next : List ℕ) (f : Field) (j : ℕ) → j < count_of row → length args ≡ count_of row → f ≡ field (get_or row (4 + j) 0)
       → next ≡ put out f (get_or args j 0)
-      → puts out (fields_by way (drop j (numbers_of row))) (drop j args) ≡ puts next (fields_by way (drop (j + 1) (numbers_of row))) (drop (j + 1) args)
+      → puts out (fields_by field (drop j (numbers_of row))) (drop j args) ≡ puts next (fields_by field (drop (j + 1) (numbers_of row))) (drop (j + 1) args)
   unfolding fields_by
-  packs-more way args out next f j h e ef en =
-      ap₂ (λ (cs vs : List ℕ). puts out (fields_by way cs) vs) (numbers_more row whole few j h) (drop-cons args j 0 (omega arith))
-      ∙ ap₂ (λ (o : List ℕ) (k : ℕ). puts o (fields_by way (drop k (numbers_of row))) (drop k args))
+  packs-more field args out next f j h e ef en =
+      ap₂ (λ (cs vs : List ℕ). puts out (fields_by field cs) vs) (numbers_more row whole few j h) (drop-cons args j 0 (omega arith))
+      ∙ ap₂ (λ (o : List ℕ) (k : ℕ). puts o (fields_by field (drop k (numbers_of row))) (drop k args))
       (ap (λ (g : Field). put out g (get_or args j 0)) (sym ef) ∙ sym en) (sym (add-one j))
 
-  pub packs-end : (way : Way) (args out : List ℕ) (j : ℕ) → count_of row ≤ j → puts out (fields_by way (drop j (numbers_of row))) (drop j args) ≡ out
+  pub packs-end : (field : ℕ → Field) (args out : List ℕ) (j : ℕ) → count_of row ≤ j → puts out (fields_by field (drop j (numbers_of row))) (drop j args) ≡ out
   unfolding fields_by
-  packs-end way args out j h = ap (λ (cs : List ℕ). puts out (fields_by way cs) (drop j args)) (numbers-past row whole few j h)
+  packs-end field args out j h = ap (λ (cs : List ℕ). puts out (fields_by field cs) (drop j args)) (numbers-past row whole few j h)
 
   -- ---- first_misfit
 
   module _ (ok : ℕ → ℕ → Bool) (vs : List ℕ) (j : ℕ) where
-    pub misfit-missing : j < count_of row → length vs ≤ j → first_misfit ok (1 + j) (drop j (numbers_of row)) (drop j vs) ≡ At (j + 1)
+    pub misfit-missing : j < count_of row → length vs ≤ j → first_misfit ok (1 + j) (drop j (numbers_of row)) (drop j vs) ≡ Some (j + 1)
     unfolding first_misfit
     misfit-missing h l =
         let n : 1 + j ≡ j + 1 = omega arith in
-        ap₂ (first_misfit ok (1 + j)) (numbers_more row whole few j h) (drop_of_length-le vs l) ∙ ap At n
+        ap₂ (first_misfit ok (1 + j)) (numbers_more row whole few j h) (drop_of_length-le vs l) ∙ ap Some n
 
     misfit-here : j < count_of row → j < length vs → first_misfit ok (1 + j) (drop j (numbers_of row)) (drop j vs)
-        ≡ cond (ok (get_or row (4 + j) 0) (get_or vs j 0)) (first_misfit ok (suc (1 + j)) (drop (suc j) (numbers_of row)) (drop (suc j) vs)) (At (1 + j))
+        ≡ cond (ok (get_or row (4 + j) 0) (get_or vs j 0)) (first_misfit ok (suc (1 + j)) (drop (suc j) (numbers_of row)) (drop (suc j) vs)) (Some (1 + j))
     unfolding first_misfit
     misfit-here h l = ap₂ (first_misfit ok (1 + j)) (numbers_more row whole few j h) (drop-cons vs j 0 l)
 
     pub misfit-bad : j < count_of row → j < length vs → ok (get_or row (4 + j) 0) (get_or vs j 0) ≡ false
-        → first_misfit ok (1 + j) (drop j (numbers_of row)) (drop j vs) ≡ At (j + 1)
+        → first_misfit ok (1 + j) (drop j (numbers_of row)) (drop j vs) ≡ Some (j + 1)
     misfit-bad h l q =
         let n : 1 + j ≡ j + 1 = omega arith in
-        misfit-here h l ∙ ap (λ (b : Bool). cond b (first_misfit ok (suc (1 + j)) (drop (suc j) (numbers_of row)) (drop (suc j) vs)) (At (1 + j))) q ∙ ap At n
+        misfit-here h l ∙ ap (λ (b : Bool). cond b (first_misfit ok (suc (1 + j)) (drop (suc j) (numbers_of row)) (drop (suc j) vs)) (Some (1 + j))) q ∙ ap Some n
 
     pub misfit-good : j < count_of row → j < length vs → ok (get_or row (4 + j) 0) (get_or vs j 0) ≡ true
         → first_misfit ok (1 + j) (drop j (numbers_of row)) (drop j vs) ≡ first_misfit ok (1 + (j + 1)) (drop (j + 1) (numbers_of row)) (drop (j + 1) vs)
     misfit-good h l q =
         let n : suc (1 + j) ≡ 1 + (j + 1) = omega arith in
         let m : suc j ≡ j + 1 = omega arith in
-        misfit-here h l ∙ ap (λ (b : Bool). cond b (first_misfit ok (suc (1 + j)) (drop (suc j) (numbers_of row)) (drop (suc j) vs)) (At (1 + j))) q
+        misfit-here h l ∙ ap (λ (b : Bool). cond b (first_misfit ok (suc (1 + j)) (drop (suc j) (numbers_of row)) (drop (suc j) vs)) (Some (1 + j))) q
         ∙ ap₂ (λ (a k : ℕ). first_misfit ok a (drop k (numbers_of row)) (drop k vs)) n m
 
-    pub misfit-surplus : count_of row ≤ j → j < length vs → first_misfit ok (1 + j) (drop j (numbers_of row)) (drop j vs) ≡ At (j + 1)
+    pub misfit-surplus : count_of row ≤ j → j < length vs → first_misfit ok (1 + j) (drop j (numbers_of row)) (drop j vs) ≡ Some (j + 1)
     unfolding first_misfit
     misfit-surplus h l =
         let n : 1 + j ≡ j + 1 = omega arith in
-        ap₂ (first_misfit ok (1 + j)) (numbers-past row whole few j h) (drop-cons vs j 0 l) ∙ ap At n
+        ap₂ (first_misfit ok (1 + j)) (numbers-past row whole few j h) (drop-cons vs j 0 l) ∙ ap Some n
 
     pub misfit-none : count_of row ≤ j → length vs ≤ j → first_misfit ok (1 + j) (drop j (numbers_of row)) (drop j vs) ≡ None
     unfolding first_misfit
@@ -92,7 +91,7 @@ as_many ok n [] (v ∷ vs) e = absurd (at_none e)
 as_many ok n (c ∷ cs) [] e = absurd (at_none e)
 as_many ok n (c ∷ cs) (v ∷ vs) e = go (ok c v) e (as_many ok (suc n) cs vs)
   where
-    go : (b : Bool) → cond b (first_misfit ok (suc n) cs vs) (At n) ≡ None → (first_misfit ok (suc n) cs vs ≡ None → length vs ≡ length cs)
+    go : (b : Bool) → cond b (first_misfit ok (suc n) cs vs) (Some n) ≡ None → (first_misfit ok (suc n) cs vs ≡ None → length vs ≡ length cs)
         → suc (length vs) ≡ suc (length cs)
     go true z ih = ap suc (ih z)
     go false z ih = absurd (at_none z)

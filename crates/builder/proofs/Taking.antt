@@ -9,8 +9,7 @@ use Rattle.table.specs.Table.{is_kind, row_of, numbers_of, plain, plain_row}
 use Rattle.table.specs.Narrowed.{frame_of}
 use Rattle.refusal.specs.declared.Refusal.TheVariants.{ArgumentOutside, NotAKind}
 use Rattle.codes.specs.Allowed.{allows, accepts}
-use Rattle.builder.specs.declared.Misfit.{Misfit}
-use Rattle.builder.specs.declared.Misfit.TheVariants.{None, At}
+use Rattle.std.specs.Prelude.{Option, Some, None}
 use Rattle.builder.specs.Building.{makes, refuses, first_misfit, unless, builds, checked, plain_by}
 
 -- each argument passes the test of its cell, and there are as many as cells
@@ -31,22 +30,22 @@ module _ (ok : ℕ → ℕ → Bool) where
   taken_none n [] (v ∷ vs) t = absurd t
   taken_none n (c ∷ cs) [] t = absurd t
   taken_none n (c ∷ cs) (v ∷ vs) t =
-      ap (λ (b : Bool). cond b (first_misfit ok (suc n) cs vs) (At n)) (is_true (ok c v) t.0) ∙ taken_none (suc n) cs vs t.1
+      ap (λ (b : Bool). cond b (first_misfit ok (suc n) cs vs) (Some n)) (is_true (ok c v) t.0) ∙ taken_none (suc n) cs vs t.1
 
   -- and else there is a first that fails
-  pub untaken-at : (n : ℕ) (cs vs : List ℕ) → (Taken ok cs vs → ⊥) → (m : ℕ) × (first_misfit ok n cs vs ≡ At m)
+  pub untaken-at : (n : ℕ) (cs vs : List ℕ) → (Taken ok cs vs → ⊥) → (m : ℕ) × (first_misfit ok n cs vs ≡ Some m)
   unfolding first_misfit
   untaken-at n [] [] d = absurd (d tt)
   untaken-at n [] (v ∷ vs) d = (n, refl)
   untaken-at n (c ∷ cs) [] d = (n, refl)
   untaken-at n (c ∷ cs) (v ∷ vs) d = go (ok c v) refl (untaken-at (suc n) cs vs)
     where
-      go : (b : Bool) → ok c v ≡ b → ((Taken ok cs vs → ⊥) → (m : ℕ) × (first_misfit ok (suc n) cs vs ≡ At m))
-          → (m : ℕ) × (cond (ok c v) (first_misfit ok (suc n) cs vs) (At n) ≡ At m)
+      go : (b : Bool) → ok c v ≡ b → ((Taken ok cs vs → ⊥) → (m : ℕ) × (first_misfit ok (suc n) cs vs ≡ Some m))
+          → (m : ℕ) × (cond (ok c v) (first_misfit ok (suc n) cs vs) (Some n) ≡ Some m)
       go true e ih =
           let z = ih (λ t. d (subst T (sym e) tt, t)) in
-          (z.0, ap (λ (b : Bool). cond b (first_misfit ok (suc n) cs vs) (At n)) e ∙ z.1)
-      go false e ih = (n, ap (λ (b : Bool). cond b (first_misfit ok (suc n) cs vs) (At n)) e)
+          (z.0, ap (λ (b : Bool). cond b (first_misfit ok (suc n) cs vs) (Some n)) e ∙ z.1)
+      go false e ih = (n, ap (λ (b : Bool). cond b (first_misfit ok (suc n) cs vs) (Some n)) e)
 
   module _ (frame : List ℕ → List ℕ → List ℕ) (k : ℕ) (vs : List ℕ) (kind : T (is_kind k)) where
     of-kind : builds ok frame k vs ≡ unless (first_misfit ok 1 (numbers_of (row_of k)) vs) (frame (row_of k) vs)
@@ -56,13 +55,13 @@ module _ (ok : ℕ → ℕ → Bool) where
 
     pub builds-takes : Taken ok (numbers_of (row_of k)) vs → builds ok frame k vs ≡ makes (frame (row_of k) vs)
     unfolding unless
-    builds-takes t = of-kind ∙ ap (λ (m : Misfit). unless m (frame (row_of k) vs)) (taken_none 1 (numbers_of (row_of k)) vs t)
+    builds-takes t = of-kind ∙ ap (λ (m : Option ℕ). unless m (frame (row_of k) vs)) (taken_none 1 (numbers_of (row_of k)) vs t)
 
     pub builds-refuses : (Taken ok (numbers_of (row_of k)) vs → ⊥) → (n : ℕ) × (builds ok frame k vs ≡ refuses (ArgumentOutside n))
     unfolding unless
     builds-refuses d =
         let z = untaken-at 1 (numbers_of (row_of k)) vs d in
-        (z.0, of-kind ∙ ap (λ (m : Misfit). unless m (frame (row_of k) vs)) z.1)
+        (z.0, of-kind ∙ ap (λ (m : Option ℕ). unless m (frame (row_of k) vs)) z.1)
 
 module _ (k : ℕ) (vs : List ℕ) (kind : T (is_kind k)) where
   pub plain-takes : Taken accepts (numbers_of (row_of k)) vs → plain_by k vs ≡ makes (plain k vs)

@@ -1,2 +1,3 @@
 pub mod Building
 pub mod Ways
+pub mod Gives

@@ -8,6 +8,7 @@ use native.Mathlib.Omega.{arith}
 use borrow.Author.Tests.{lt-ltb, le-ltb, ltb-true, ltb-false}
 use lib.Bits.{bit_and}
 use lib.Dec.{T, leb, ltb, leb→le, ltb→lt, lt→ltb}
+use Rattle.std.specs.Prelude.{Result, Ok, Err, Option, Some, None}
 use lib.ListN.{length, get_or}
 use Rattle.frame.specs.Layout.{bytes, tab, byte_of, mask_of, reads, fitting, layout}
 use Rattle.frame.proofs.Fields.{and_in, both_left, both_right, length-tab, get_d-tab, checked-reads, reads_fit, frame_back, clean}
@@ -18,17 +19,14 @@ use Rattle.table.specs.Narrowed.{fields_of, frame_of, opcode, arguments_in}
 use Rattle.table.specs.Laid.{find}
 use Rattle.table.proofs.Cells.{length-narrows}
 use Rattle.table.proofs.Rows.{Laid, row_laid, row-found}
+use Rattle.refusal.specs.declared.Refusal.{Refusal}
 use Rattle.refusal.specs.declared.Refusal.TheVariants.{ShortFrame, StrayBit, UnknownCode, NotAKind}
 use Rattle.codes.specs.Allowed.{allows}
-use Rattle.decoder.specs.declared.Sought.{Sought}
-use Rattle.decoder.specs.declared.Sought.TheVariants.{Row, WrongLength, UnknownOpcode}
 use Rattle.decoder.specs.Decoding as decoder
 use Rattle.decoder.specs.Decoding.{reading, stray_at, lacking, lacking_at, judged, sought, answered, decode}
 use Rattle.decoder.proofs.Apart.{refuses-reading}
 use Rattle.decoder.proofs.Stray.{none-stray, stray-clean}
 use Rattle.decoder.proofs.Returns.{Found, sought-row}
-use Rattle.builder.specs.declared.Misfit.{Misfit}
-use Rattle.builder.specs.declared.Misfit.TheVariants.{None, At}
 use Rattle.builder.specs.Building as builder
 use Rattle.builder.specs.Building.{makes, first_misfit, unless, builds, checked}
 use Rattle.builder.proofs.Apart.{at_none, refuses-makes}
@@ -55,7 +53,7 @@ inside n [] (v ∷ vs) e = absurd (at_none e)
 inside n (c ∷ cs) [] e = absurd (at_none e)
 inside n (c ∷ cs) (v ∷ vs) e = go (ltb v (2 ^ (narrow_of c).w)) (takes (codes_of c) v) refl refl e (inside (suc n) cs vs)
   where
-    go : (a b : Bool) → ltb v (2 ^ (narrow_of c).w) ≡ a → takes (codes_of c) v ≡ b → cond (a && b) (first_misfit allows (suc n) cs vs) (At n) ≡ None
+    go : (a b : Bool) → ltb v (2 ^ (narrow_of c).w) ≡ a → takes (codes_of c) v ≡ b → cond (a && b) (first_misfit allows (suc n) cs vs) (Some n) ≡ None
         → (first_misfit allows (suc n) cs vs ≡ None → Inside cs vs) → Inside (c ∷ cs) (v ∷ vs)
     go true true p q z ih =
         let w : Inside cs vs = ih z in record {
@@ -84,8 +82,8 @@ none-fails m n (c ∷ cs) (v ∷ vs) t s h =
     small = is_true _ (both_left (ltb v (2 ^ (narrow_of c).w)) (fitting (narrows_of cs) vs) t)
 
     go : (b : Bool) → takes (codes_of c) v ≡ b → m ≤ cond b (lacking m cs vs) (min (narrow_of c).first (lacking m cs vs))
-        → (m ≤ lacking m cs vs → first_misfit allows (suc n) cs vs ≡ None) → cond (allows c v) (first_misfit allows (suc n) cs vs) (At n) ≡ None
-    go true q l ih = ap₂ (λ (a b : Bool). cond (a && b) (first_misfit allows (suc n) cs vs) (At n)) small q ∙ ih l
+        → (m ≤ lacking m cs vs → first_misfit allows (suc n) cs vs ≡ None) → cond (allows c v) (first_misfit allows (suc n) cs vs) (Some n) ≡ None
+    go true q l ih = ap₂ (λ (a b : Bool). cond (a && b) (first_misfit allows (suc n) cs vs) (Some n)) small q ∙ ih l
     go false q l ih = absurd (omega (arith, low))
 
 -- ---- a frame that is built decodes
@@ -151,16 +149,16 @@ pub record Made (k : ℕ) (vs f : List ℕ) : Type 0 where
   pub none : first_misfit allows 1 (numbers_of (row_of k)) vs ≡ None
   pub gives : frame_of (row_of k) vs ≡ f
 
-unless-made : (m : Misfit) (g f : List ℕ) → unless m g ≡ makes f → (m ≡ None) × (g ≡ f)
+unless-made : (m : Option ℕ) (g f : List ℕ) → unless m g ≡ makes f → (m ≡ None) × (g ≡ f)
 unfolding unless
 unless-made None g f e = (refl, cc)
-unless-made (At n) g f e = absurd (refuses-makes e)
+unless-made (Some n) g f e = absurd (refuses-makes e)
 
 pub made : (k : ℕ) (vs f : List ℕ) → checked k vs ≡ makes f → Made k vs f
 unfolding builds
 made k vs f e = go (ltb 0 k) (leb k kinds) refl refl e
   where
-    m : Misfit
+    m : Option ℕ
     m = first_misfit allows 1 (numbers_of (row_of k)) vs
 
     go : (a b : Bool) → ltb 0 k ≡ a → leb k kinds ≡ b → cond (a && b) (unless m (frame_of (row_of k) vs)) (builder.refuses NotAKind) ≡ makes f → Made k vs f
@@ -218,10 +216,9 @@ pub decode-read : (f : List ℕ) (k : ℕ) (vs : List ℕ) → decode f ≡ read
 unfolding decode answered
 decode-read f k vs e = go (ltb (length f) 2) (sought (opcode f) (length f)) refl e
   where
-    go : (a : Bool) (x : Sought) → sought (opcode f) (length f) ≡ x → cond a (decoder.refuses ShortFrame) (answered f x) ≡ reading k vs → Read f k vs
+    go : (a : Bool) (x : Result ℕ Refusal) → sought (opcode f) (length f) ≡ x → cond a (decoder.refuses ShortFrame) (answered f x) ≡ reading k vs → Read f k vs
     go true x p z = absurd (refuses-reading z)
-    go false WrongLength p z = absurd (refuses-reading z)
-    go false UnknownOpcode p z = absurd (refuses-reading z)
-    go false (Row i) p z =
+    go false (Err y) p z = absurd (refuses-reading z)
+    go false (Ok i) p z =
         let g : Found (opcode f) (length f) i = sought-row (opcode f) (length f) i p in
         judged-read i k f vs g.row (sym g.has.0) g.has.1 z

@@ -1,11 +1,13 @@
 -- How far a refusal's place reaches, how long a frame is that is made, and by which numbers the decoder refuses. Assumes nothing.
 use mathlib.Core.Path.{◌≡◌, refl, sym, ap, ◌∙◌, subst}
+use mathlib.Core.Logic.{⊎_elim}
 use mathlib.Core.Bool.{Bool, true, false, cond, ◌&&◌}
 use mathlib.Core.List.{List, [], ◌∷◌}
 use Prim.Native.Nat.{ℕ, suc, ◌+◌, ◌-◌, ◌≤◌, ◌<◌}
 use native.Mathlib.Omega.{arith}
 use borrow.Author.Tests.{ltb-true, leb-true}
 use lib.Dec.{T, ltb, leb}
+use Rattle.std.specs.Prelude.{Result, Ok, Err, Option, Some, None}
 use lib.ListN.{length, get_or, drop, length-take}
 use Rattle.frame.specs.Layout.{byte_of}
 use Rattle.frame.proofs.Fields.{length-tab}
@@ -14,16 +16,12 @@ use Rattle.table.specs.Table.{kinds, is_kind, rows, op_of, len_of, count_of, num
 use Rattle.table.specs.Narrowed.{fields_of, frame_of, opcode, arguments_in}
 use Rattle.table.proofs.Rows.{row_laid, plain-is}
 use Rattle.refusal.specs.declared.Refusal.{Refusal}
-use Rattle.refusal.specs.declared.Refusal.TheVariants.{ShortFrame, StrayBit, UnknownCode, NotAKind}
+use Rattle.refusal.specs.declared.Refusal.TheVariants.{ShortFrame, WrongLength, UnknownOpcode, StrayBit, UnknownCode, NotAKind}
 use Rattle.refusal.specs.Numbers.{number_of, place_of}
 use Rattle.codes.specs.Allowed.{allows, accepts}
-use Rattle.decoder.specs.declared.Sought.{Sought}
-use Rattle.decoder.specs.declared.Sought.TheVariants.{Row, WrongLength, UnknownOpcode}
 use Rattle.decoder.specs.Decoding as decoder
 use Rattle.decoder.specs.Decoding.{Reading, reading, stray_at, lacking_at, judged, sought, answered, decode}
-use Rattle.decoder.proofs.Returns.{Found, sought-row}
-use Rattle.builder.specs.declared.Misfit.{Misfit}
-use Rattle.builder.specs.declared.Misfit.TheVariants.{None, At}
+use Rattle.decoder.proofs.Returns.{Found, sought-row, sought-none}
 use Rattle.builder.specs.Building as builder
 use Rattle.builder.specs.Building.{Making, makes, first_misfit, unless, builds, checked, plain_by}
 
@@ -56,11 +54,11 @@ decode-told : (f : List ℕ) → Told (decode f)
 unfolding decode answered
 decode-told f = by (ltb (length f) 2) (sought (opcode f) (length f)) refl
   where
-    by : (a : Bool) (x : Sought) → sought (opcode f) (length f) ≡ x → Told (cond a (decoder.refuses ShortFrame) (answered f x))
+    by : (a : Bool) (x : Result ℕ Refusal) → sought (opcode f) (length f) ≡ x → Told (cond a (decoder.refuses ShortFrame) (answered f x))
     by true x e = record { place = omega arith; number = omega arith }
-    by false WrongLength e = record { place = omega arith; number = omega arith }
-    by false UnknownOpcode e = record { place = omega arith; number = omega arith }
-    by false (Row i) e =
+    by false (Err y) e = ⊎_elim (λ q. subst (λ (r : Refusal). Told (decoder.refuses r)) (sym q) (record { place = omega arith; number = omega arith }))
+        (λ q. subst (λ (r : Refusal). Told (decoder.refuses r)) (sym q) (record { place = omega arith; number = omega arith })) (sought-none (opcode f) (length f) y e)
+    by false (Ok i) e =
         let g : Found (opcode f) (length f) i = sought-row (opcode f) (length f) i e in
         judged-told (suc i) (get_or rows i []) f (omega (arith, g.has.1, (row_laid i g.row).most))
 
@@ -74,9 +72,9 @@ decode-own f x e = subst (λ (y : Reading). number_in y ≤ 5) e (decode-told f)
 -- ---- the builders
 
 -- where the first argument stands that fails
-abbrev place_at : Misfit → ℕ
+abbrev place_at : Option ℕ → ℕ
 place_at None = 0
-place_at (At n) = n
+place_at (Some n) = n
 
 misfit-most : (ok : ℕ → ℕ → Bool) (n : ℕ) (cs vs : List ℕ) → place_at (first_misfit ok n cs vs) ≤ n + length cs
 unfolding first_misfit
@@ -85,7 +83,7 @@ misfit-most ok n [] (v ∷ vs) = omega arith
 misfit-most ok n (c ∷ cs) [] = omega arith
 misfit-most ok n (c ∷ cs) (v ∷ vs) = by (ok c v) (misfit-most ok (suc n) cs vs)
   where
-    by : (b : Bool) → place_at (first_misfit ok (suc n) cs vs) ≤ suc n + length cs → place_at (cond b (first_misfit ok (suc n) cs vs) (At n)) ≤ n + suc (length cs)
+    by : (b : Bool) → place_at (first_misfit ok (suc n) cs vs) ≤ suc n + length cs → place_at (cond b (first_misfit ok (suc n) cs vs) (Some n)) ≤ n + suc (length cs)
     by true h = omega arith
     by false h = omega arith
 
@@ -101,10 +99,10 @@ pub record Within (m : Making) : Type 0 where
   pub place : place_out m ≤ 10
   pub long : made_long m ≤ 12
 
-unless-within : (m : Misfit) (f : List ℕ) → place_at m ≤ 10 → length f ≤ 12 → Within (unless m f)
+unless-within : (m : Option ℕ) (f : List ℕ) → place_at m ≤ 10 → length f ≤ 12 → Within (unless m f)
 unfolding unless
 unless-within None f h l = record { place = omega arith; long = l }
-unless-within (At n) f h l = record { place = h; long = omega arith }
+unless-within (Some n) f h l = record { place = h; long = omega arith }
 
 few-numbers : (r : List ℕ) → length (numbers_of r) ≤ count_of r
 few-numbers r = omega (arith, length-take (count_of r) (drop 4 r))

@@ -32,8 +32,7 @@ use Rattle.decoder.specs.Decoding as decoder
 use Rattle.decoder.specs.Decoding.{reading, stray_at, lacking, lacking_at, judged, decode}
 use Rattle.decoder.proofs.Apart.{refuses-reading}
 use Rattle.decoder.proofs.Stray.{stray-clean}
-use Rattle.builder.specs.declared.Misfit.{Misfit}
-use Rattle.builder.specs.declared.Misfit.TheVariants.{None, At}
+use Rattle.std.specs.Prelude.{Option, Some, None, Result, Ok, Err}
 use Rattle.builder.specs.Building as builder
 use Rattle.builder.specs.Building.{makes, first_misfit, unless, builds, checked, plain_by}
 use Rattle.builder.proofs.Taking.{plain-takes}
@@ -147,7 +146,7 @@ module _ (syncword order nb : ℕ) (yes : order < 2) where
       by false p true q = absurd (omega (arith, ltb-false nb 128 p, leb-true nb 64 q))
       by false p false q = refl
 
-  misfit : syncword < 2 ^ 64 → first_misfit allows 1 (numbers_of (row_of 20)) vs ≡ cond (leb nb 64) None (At 3)
+  misfit : syncword < 2 ^ 64 → first_misfit allows 1 (numbers_of (row_of 20)) vs ≡ cond (leb nb 64) None (Some 3)
   unfolding first_misfit takes narrow_of
   misfit wide = simp (lt-ltb syncword (2 ^ 64) wide, lt-ltb order 2 yes, in-range)
 
@@ -155,14 +154,14 @@ module _ (syncword order nb : ℕ) (yes : order < 2) where
   unfolding builds unless
   sync-word-checked wide = by (leb nb 64) refl
     where
-      made : (m : Misfit) → first_misfit allows 1 (numbers_of (row_of 20)) vs ≡ m → checked 20 vs ≡ unless m (frame_of (row_of 20) vs)
-      made m e = ap (λ (x : Misfit). unless x (frame_of (row_of 20) vs)) e
+      made : (m : Option ℕ) → first_misfit allows 1 (numbers_of (row_of 20)) vs ≡ m → checked 20 vs ≡ unless m (frame_of (row_of 20) vs)
+      made m e = ap (λ (x : Option ℕ). unless x (frame_of (row_of 20) vs)) e
 
       by : (t : Bool) → leb nb 64 ≡ t → checked 20 vs ≡ cond t (makes (plain 20 vs)) (builder.refuses (ArgumentOutside 3))
       by true e =
-          let c : checked 20 vs ≡ makes (frame_of (row_of 20) vs) = made None (misfit wide ∙ ap (λ (t : Bool). cond t None (At 3)) e) in
+          let c : checked 20 vs ≡ makes (frame_of (row_of 20) vs) = made None (misfit wide ∙ ap (λ (t : Bool). cond t None (Some 3)) e) in
           c ∙ ap makes (sym (plain-checked 20 vs (frame_of (row_of 20) vs) c))
-      by false e = made (At 3) (misfit wide ∙ ap (λ (t : Bool). cond t None (At 3)) e)
+      by false e = made (Some 3) (misfit wide ∙ ap (λ (t : Bool). cond t None (Some 3)) e)
 
   pub sync-word-plain : plain_by 20 vs ≡ makes (plain 20 vs)
   unfolding takes plain_of

@@ -4,13 +4,14 @@ use mathlib.Core.Path.{◌≡◌, refl, sym, ap, ◌∙◌}
 use mathlib.Core.List.{List}
 use Prim.Native.Nat.{ℕ, ◌+◌, ◌<◌, ◌≤◌}
 use native.Mathlib.Omega.{arith}
+use Rattle.std.specs.Prelude.{Result, Ok, Err}
+use lib.ListN.{take}
 use borrow.Author.Tests.{eq-eqb, ne_eqb, le-leb, lt-leb, lt-ltb, le-ltb}
 use Rattle.table.specs.Table.{settings}
 use Rattle.settings.specs.Settings.{slot_for}
 use Rattle.refusal.specs.declared.Refusal.{Refusal}
 use Rattle.refusal.specs.Numbers.{number_of}
-use Rattle.decoder.specs.declared.Answer.{Answer}
-use Rattle.decoder.specs.declared.Answer.TheVariants.{Kind, Refused}
+use Rattle.decoder.proofs.Handed.{decoded-reading, decoded-refuses}
 use Rattle.decoder.specs.declared.Decoded.{Decoded}
 use Rattle.decoder.specs.Decoding.{Reading, reading, refuses, decoded, decode}
 use Rattle.cmd_lora.specs.Responses.{lora_rx_stats_read, lora_packet_status_read}
@@ -77,21 +78,7 @@ module _ (k : ℕ) (d : Day) (a : Said) (x : Refusal) (e : a ≡ said.Refused x)
 
 -- ---- commands
 
--- what a command decodes to, by the decoder's answer
-kind-read : (r : Reading) (k : ℕ) → (decoded r).answer ≡ Kind k → (vs : List ℕ) × (r ≡ reading k vs)
-unfolding decoded
-kind-read (reading j vs) k e = let s : j ≡ k = cc in (vs, ap (λ (i : ℕ). reading i vs) s)
-kind-read (refuses x) k e = absurd (let z : ◌≡◌ {A = ℕ} 0 1 = cc in omega arith)
-
-refusal-read : (r : Reading) (x : Refusal) → (decoded r).answer ≡ Refused x → r ≡ refuses x
-unfolding decoded
-refusal-read (reading j vs) x e = absurd (let z : ◌≡◌ {A = ℕ} 0 1 = cc in omega arith)
-refusal-read (refuses y) x e = let s : y ≡ x = cc in ap refuses s
-
-module _ (f b : List ℕ) (d : Day) (q : Decoded) (e : q ≡ decoded (decode f)) where
-  told : {a : Answer} → q.answer ≡ a → (decoded (decode f)).answer ≡ a
-  told h = ap (λ (x : Decoded). x.answer) (sym e) ∙ h
-
+module _ (f b : List ℕ) (d : Day) (q : Result Decoded Refusal) (e : q ≡ decoded (decode f)) where
   -- the two clauses of a command's contract
   abbrev pub Sent : Day → List ℕ → Type 0
   Sent r x = (r ≡ sent_day f b d) × (x ≡ sent_bytes f b)
@@ -100,14 +87,13 @@ module _ (f b : List ℕ) (d : Day) (q : Decoded) (e : q ≡ decoded (decode f))
     put-sent : (k : ℕ) (a : Said) → PutAs f b d k → r ≡ tallied k a d → Permits (after (Put f) b) a x → Sent r x
     put-sent k a s g p = (g ∙ ap (λ (y : Said). tallied k y d) p.0 ∙ sym s.0, p.1 ∙ sym s.1)
 
-    pub sent-setting : (k : ℕ) (a : Said) → q.answer ≡ Kind k → slot_for k < settings → r ≡ tallied k a d → Permits (after (Put f) b) a x → Sent r x
-    sent-setting k a h l = let z = kind-read (decode f) k (told h) in put-sent k a (setting-sent f b d k z.0 z.1 l)
+    pub sent-setting : (c : Decoded) (a : Said) → q ≡ Ok c → slot_for c.kind < settings → r ≡ tallied c.kind a d → Permits (after (Put f) b) a x → Sent r x
+    sent-setting c a h l = put-sent c.kind a (setting-sent f b d c.kind (take c.count c.args) (decoded-reading (decode f) q c e h) l)
 
-    pub sent-action : (k : ℕ) → q.answer ≡ Kind k → settings ≤ slot_for k → r ≡ noted k d → x ≡ b → Sent r x
-    sent-action k h l g p =
-        let z = kind-read (decode f) k (told h) in
-        let s = action-sent f b d k z.0 z.1 l in
+    pub sent-action : (c : Decoded) → q ≡ Ok c → settings ≤ slot_for c.kind → r ≡ noted c.kind d → x ≡ b → Sent r x
+    sent-action c h l g p =
+        let s = action-sent f b d c.kind (take c.count c.args) (decoded-reading (decode f) q c e h) l in
         (g ∙ sym s.0, p ∙ sym s.1)
 
-    pub sent-refused : (a : Said) (w : Refusal) → q.answer ≡ Refused w → r ≡ tallied 0 a d → Permits (after (Put f) b) a x → Sent r x
-    sent-refused a w h = put-sent 0 a (stray-sent f b d w (refusal-read (decode f) w (told h)))
+    pub sent-refused : (a : Said) (w : Refusal) → q ≡ Err w → r ≡ tallied 0 a d → Permits (after (Put f) b) a x → Sent r x
+    sent-refused a w h = put-sent 0 a (stray-sent f b d w (decoded-refuses (decode f) q w e h))

@@ -260,15 +260,15 @@ pub fn send(day: Day, book: &mut [u8], frame: &[u8]) -> Day
     ensures value { result ≡ sent_day frame.now book.old day }
     ensures book_after { book.new ≡ sent_bytes frame.now book.old }
 {
-    let found = decoder::decode(frame).answer;
+    let found = decoder::decode(frame);
     match found {
-        decoder::Answer::Kind(kind) => {
-            if slot_for(kind) < table::SETTINGS {
-                tally(day, kind, book::put(book, frame))
+        Ok(decoded) => {
+            if slot_for(decoded.kind) < table::SETTINGS {
+                tally(day, decoded.kind, book::put(book, frame))
             } else {
-                note(day, kind)
+                note(day, decoded.kind)
             }
         }
-        decoder::Answer::Refused(_) => tally(day, 0, book::put(book, frame)),
+        Err(_) => tally(day, 0, book::put(book, frame)),
     }
 }

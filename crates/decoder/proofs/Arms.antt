@@ -79,17 +79,22 @@ pub got : (c : ℕ) (s : List ℕ) (f : Field) → f ≡ narrow_of c → T (soun
 got c s f e t x ex = ex ∙ ap (get s) e ∙ get-read s (narrow_of c) (sound-is 16 (narrow_of c) t)
 
 module _ (b : ℕ → ℕ) (c : ℕ) (cs : List ℕ) (v : ℕ) (ev : v ≡ read (narrow_of c) b) where
-  pub taken_next : (x y z : Bool) → x ≡ takes (codes_of c) v → y ≡ all_taken cs b → z ≡ (x && y) → z ≡ all_taken (c ∷ cs) b
+  pub taken_next : (x y : Bool) → x ≡ takes (codes_of c) v → y ≡ all_taken cs b → (x && y) ≡ all_taken (c ∷ cs) b
   unfolding all_taken
-  taken_next x y z ex ey ez = ez ∙ ap₂ ◌&&◌ (ex ∙ ap (takes (codes_of c)) ev) ey
+  taken_next x y ex ey = ap₂ ◌&&◌ (ex ∙ ap (takes (codes_of c)) ev) ey
 
   pub reads-next : (vs : List ℕ) → vs ≡ reads (narrows_of cs) b → ◌≡◌ {A = List ℕ} (v ∷ vs) (reads (narrows_of (c ∷ cs)) b)
   unfolding reads narrows_of
   reads-next vs e = ap₂ ◌∷◌ ev e
 
-pub none-taken : (b : ℕ → ℕ) → true ≡ all_taken [] b
+and_true : (x : Bool) → x ≡ (x && true)
+and_true true = refl
+and_true false = refl
+
+-- the last field alone
+pub taken_last : (b : ℕ → ℕ) (c v : ℕ) → v ≡ read (narrow_of c) b → (x : Bool) → x ≡ takes (codes_of c) v → x ≡ all_taken (c ∷ []) b
 unfolding all_taken
-none-taken b = refl
+taken_last b c v ev x ex = ex ∙ ap (takes (codes_of c)) ev ∙ and_true (takes (codes_of c) (read (narrow_of c) b))
 
 pub none_read : (b : ℕ → ℕ) → [] ≡ reads (narrows_of []) b
 unfolding reads narrows_of

@@ -13,6 +13,7 @@ use native.Mathlib.Omega.{arith}
 use borrow.Author.Tests.{eqb-true, eqb-false, ltb-true, ltb-false, lt-ltb, le-ltb}
 use lib.Bits.{bit_and}
 use lib.Dec.{T, eqb, ltb, ltb→lt}
+use Rattle.std.specs.Prelude.{Result, Ok, Err}
 use lib.ListN.{length, get_or}
 use Rattle.frame.specs.Field.{read}
 use Rattle.frame.specs.Layout.{bytes, mask_of, reads, tab, tab_from}
@@ -25,15 +26,12 @@ use Rattle.table.specs.Laid.{find}
 use Rattle.table.specs.Narrowed.{fields_of, opcode, arguments_in}
 use Rattle.table.proofs.Rows.{row-at, row-found, row_laid}
 use Rattle.refusal.specs.declared.Refusal.{Refusal}
-use Rattle.refusal.specs.declared.Refusal.TheVariants.{ShortFrame, StrayBit, UnknownCode}
-use Rattle.refusal.specs.declared.Refusal.TheVariants as refusal
+use Rattle.refusal.specs.declared.Refusal.TheVariants.{ShortFrame, WrongLength, UnknownOpcode, StrayBit, UnknownCode}
 use Rattle.refusal.specs.Numbers.{number_of}
-use Rattle.decoder.specs.declared.Sought.{Sought}
-use Rattle.decoder.specs.declared.Sought.TheVariants.{Row, WrongLength, UnknownOpcode}
 use Rattle.decoder.specs.Decoding.{Reading, reading, refuses, stray, lacking, stray_at, lacking_at, judged, known, sought, answered, decode}
 use Rattle.decoder.proofs.Apart.{refuses-reading}
 use Rattle.decoder.proofs.Clean.{start_below}
-use Rattle.decoder.proofs.Returns.{judged-stray, sought-row}
+use Rattle.decoder.proofs.Returns.{judged-stray, sought-row, sought-none}
 use Rattle.decoder.proofs.Arms.{row-starts}
 
 -- ---- the words
@@ -152,9 +150,9 @@ unfolding decode answered sought
 has-judged f i h =
     let e : find rows (opcode f) (length f) ≡ i = ap₂ (find rows) (sym h.opcode-is) (sym h.length-is) ∙ row-found i h.row in
     let two : 2 ≤ length f = omega (arith, (row_laid i h.row).least, h.length-is) in
-    let there : sought (opcode f) (length f) ≡ Row i =
-    ap (λ (k : ℕ). cond (ltb k kinds) (Row k) (cond (known rows (opcode f)) WrongLength UnknownOpcode)) e
-    ∙ ap (λ (t : Bool). cond t (Row i) (cond (known rows (opcode f)) WrongLength UnknownOpcode)) (lt-ltb i kinds h.row) in
+    let there : sought (opcode f) (length f) ≡ Ok i =
+    ap (λ (k : ℕ). cond (ltb k kinds) (Ok k) (cond (known rows (opcode f)) (Err WrongLength) (Err UnknownOpcode))) e
+    ∙ ap (λ (t : Bool). cond t (Ok i) (cond (known rows (opcode f)) (Err WrongLength) (Err UnknownOpcode))) (lt-ltb i kinds h.row) in
     ap (λ (t : Bool). cond t (refuses ShortFrame) (answered f (sought (opcode f) (length f)))) (le-ltb (length f) 2 two) ∙ ap (answered f) there
 
 record Judged (f : List ℕ) (x : Refusal) : Type 0 where
@@ -169,11 +167,12 @@ refused-judged f x h e = by (ltb (length f) 2) (sought (opcode f) (length f)) re
     not_so : (y : Refusal) → refuses y ≡ refuses x → number_of y ≤ 3 → ⊥
     not_so y z l = let q : y ≡ x = cc in omega (arith, ap number_of q)
 
-    by : (a : Bool) (y : Sought) → sought (opcode f) (length f) ≡ y → cond a (refuses ShortFrame) (answered f y) ≡ refuses x → Judged f x
+    by : (a : Bool) (y : Result ℕ Refusal) → sought (opcode f) (length f) ≡ y → cond a (refuses ShortFrame) (answered f y) ≡ refuses x → Judged f x
     by true y p z = absurd (not_so ShortFrame z (omega arith))
-    by false WrongLength p z = absurd (not_so refusal.WrongLength z (omega arith))
-    by false UnknownOpcode p z = absurd (not_so refusal.UnknownOpcode z (omega arith))
-    by false (Row i) p z =
+    by false (Err y) p z =
+        absurd (⊎_elim (λ e. not_so WrongLength (ap refuses (sym e) ∙ z) (omega arith)) (λ e. not_so UnknownOpcode (ap refuses (sym e) ∙ z) (omega arith))
+        (sought-none (opcode f) (length f) y p))
+    by false (Ok i) p z =
         let g = sought-row (opcode f) (length f) i p in
         record { row = i; has = record { row = g.row; opcode-is = g.has.0; length-is = g.has.1 }; says = z }
 

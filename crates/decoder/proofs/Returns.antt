@@ -1,5 +1,6 @@
 -- What the returns of the decoder ask: each branch gives the specification's answer. Assumes nothing.
 use mathlib.Core.Path.{◌≡◌, refl, sym, ap, ap₂, ◌∙◌, subst}
+use mathlib.Core.Logic.{◌⊎◌, inl, inr}
 use mathlib.Core.Bool.{Bool, true, false, cond}
 use mathlib.Core.List.{List, [], ◌++◌}
 use Prim.Native.Nat.{ℕ, ◌+◌, ◌-◌, ◌≤◌, ◌<◌}
@@ -7,6 +8,7 @@ use native.Mathlib.Numerals.{add-one}
 use native.Mathlib.Omega.{arith}
 use borrow.Author.Tests.{lt-ltb, le-ltb, ltb-true}
 use lib.Dec.{ltb}
+use Rattle.std.specs.Prelude.{Result, Ok, Err}
 use lib.ListN.{length, get_or, take, replicate}
 use lib.Seq.{take_at}
 use Rattle.frame.specs.Layout.{bytes}
@@ -15,14 +17,11 @@ use Rattle.table.specs.Laid.{find}
 use Rattle.table.specs.Narrowed.{opcode, arguments_in, Ready}
 use Rattle.table.proofs.Cells.{length-numbers}
 use Rattle.table.proofs.Rows.{count, row-at, found-row}
-use Rattle.refusal.specs.declared.Refusal.TheVariants.{ShortFrame, StrayBit, UnknownCode}
-use Rattle.decoder.specs.declared.Sought.{Sought}
-use Rattle.decoder.specs.declared.Sought.TheVariants as seek
-use Rattle.decoder.specs.declared.Sought.TheVariants.{Row}
-use Rattle.decoder.specs.declared.Answer.TheVariants.{Kind}
+use Rattle.refusal.specs.declared.Refusal.{Refusal}
+use Rattle.refusal.specs.declared.Refusal.TheVariants.{ShortFrame, WrongLength, UnknownOpcode, StrayBit, UnknownCode}
 use Rattle.decoder.specs.declared.Decoded.{Decoded}
 use Rattle.decoder.specs.Decoding.{reading, refuses, stray_at, lacking, lacking_at, judged, known, sought, answered, decode, decoded}
-use Rattle.decoder.proofs.Apart.{wrong_row, unknown-row}
+use Rattle.decoder.proofs.Apart.{err-ok}
 use Rattle.decoder.proofs.Fields.{length-reads}
 
 -- ---- judge
@@ -49,11 +48,11 @@ module _ (r : List ℕ) (f : List ℕ) where
     unfolding judged
     judged-kind k h = simp (le-ltb (stray_at r f) (length f) clean, lacking-is, le-ltb q (length f) h)
 
-    pub decoded-kind : (k n : ℕ) → length f ≤ q → n ≡ count_of r → ◌≡◌ {A = Decoded} (record { answer = Kind k; count = n; args = args })
+    pub decoded-kind : (k n : ℕ) → length f ≤ q → n ≡ count_of r → ◌≡◌ {A = Result Decoded Refusal} (Ok (record { kind = k; count = n; args = args }))
         (decoded (judged k r f))
     unfolding decoded
     decoded-kind k n h en =
-        ap₂ (λ (m : ℕ) (v : List ℕ). record { answer = Kind k; count = m; args = v }) (en ∙ sym many)
+        ap₂ {C = Result Decoded Refusal} (λ (m : ℕ) (v : List ℕ). Ok (record { kind = k; count = m; args = v })) (en ∙ sym many)
         (ea ∙ ap (λ (m : ℕ). arguments_in r f ++ replicate (9 - m) 0) (sym many))
         ∙ ap decoded (sym (judged-kind k h))
 
@@ -69,11 +68,11 @@ pub record Found (o l i : ℕ) : Type 0 where
   pub row : i < kinds
   pub has : (op_of (get_or rows i []) ≡ o) × (len_of (get_or rows i []) ≡ l)
 
-pub sought-row : (o l i : ℕ) → sought o l ≡ Row i → Found o l i
+pub sought-row : (o l i : ℕ) → sought o l ≡ Ok i → Found o l i
 unfolding sought
 sought-row o l i e = by (ltb (find rows o l) kinds) (known rows o) refl e
   where
-    by : (a b : Bool) → ltb (find rows o l) kinds ≡ a → cond a (Row (find rows o l)) (cond b seek.WrongLength seek.UnknownOpcode) ≡ Row i → Found o l i
+    by : (a b : Bool) → ltb (find rows o l) kinds ≡ a → cond a (Ok (find rows o l)) (cond b (Err WrongLength) (Err UnknownOpcode)) ≡ Ok i → Found o l i
     by true b p z =
         let q : find rows o l ≡ i = cc in
         let h : find rows o l < kinds = ltb-true _ _ p in record {
@@ -81,15 +80,29 @@ sought-row o l i e = by (ltb (find rows o l) kinds) (known rows o) refl e
           row = subst (λ (k : ℕ). k < kinds) q h;
           has = subst (λ (k : ℕ). (op_of (get_or rows k []) ≡ o) × (len_of (get_or rows k []) ≡ l)) q (found-row rows o l (omega (arith, count)));
         }
-    by false true p z = absurd (wrong_row z)
-    by false false p z = absurd (unknown-row z)
+    by false true p z = absurd (err-ok z)
+    by false false p z = absurd (err-ok z)
 
-module _ (f : List ℕ) (o : ℕ) (x : Sought) (eo : o ≡ opcode f) (ex : x ≡ sought o (length f)) where
+-- where no row is, the refusal is one of two
+pub sought-none : (o l : ℕ) (x : Refusal) → sought o l ≡ Err x → (x ≡ WrongLength) ⊎ (x ≡ UnknownOpcode)
+unfolding sought
+sought-none o l x e = by (ltb (find rows o l) kinds) (known rows o) e
+  where
+    by : (a b : Bool) → cond a (Ok (find rows o l)) (cond b (Err WrongLength) (Err UnknownOpcode)) ≡ Err x → (x ≡ WrongLength) ⊎ (x ≡ UnknownOpcode)
+    by true b z = absurd (err-ok (sym z))
+    by false true z = inl cc
+    by false false z = inr cc
+
+module _ (f : List ℕ) (o : ℕ) (x : Result ℕ Refusal) (eo : o ≡ opcode f) (ex : x ≡ sought o (length f)) where
   pub decode-sought : 2 ≤ length f → answered f x ≡ decode f
   unfolding decode
   decode-sought two = ap (answered f) (ex ∙ ap (λ (k : ℕ). sought k (length f)) eo) ∙ sym (simp (le-ltb (length f) 2 two))
 
-  module _ (i : ℕ) (e : x ≡ Row i) where
+  pub decode-refused : (y : Refusal) → x ≡ Err y → 2 ≤ length f → refuses y ≡ decode f
+  unfolding answered
+  decode-refused y e two = ap (answered f) (sym e) ∙ decode-sought two
+
+  module _ (i : ℕ) (e : x ≡ Ok i) where
     place : Found o (length f) i
     place = sought-row o (length f) i (sym ex ∙ e)
 

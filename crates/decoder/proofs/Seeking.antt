@@ -8,6 +8,7 @@ use native.Mathlib.Nat.{add-suc, suc-add}
 use native.Mathlib.Omega.{arith}
 use borrow.Author.Tests.{eq-eqb, ne_eqb, lt-ltb, le-ltb}
 use lib.Dec.{T, eqb, ltb, eqb→eq}
+use Rattle.std.specs.Prelude.{Result, Ok, Err}
 use lib.ListN.{length, get_or}
 use Rattle.frame.proofs.OneField.{le-or-lt}
 use Rattle.table.specs.Table.{kinds, rows, op_of, len_of}
@@ -16,16 +17,16 @@ use Rattle.table.specs.Laid.{find}
 use Rattle.table.proofs.Below.{below, below_at}
 use Rattle.table.proofs.Heads.{head-length, head-next}
 use Rattle.table.proofs.Rows.{count, row_laid, row-found, found-row}
-use Rattle.decoder.specs.declared.Sought.{Sought}
-use Rattle.decoder.specs.declared.Sought.TheVariants.{Row, WrongLength, UnknownOpcode}
+use Rattle.refusal.specs.declared.Refusal.{Refusal}
+use Rattle.refusal.specs.declared.Refusal.TheVariants.{WrongLength, UnknownOpcode}
 use Rattle.decoder.specs.Seats.{seat_from, seat_of}
 use Rattle.decoder.specs.Decoding.{known, sought}
 
 -- what the code makes of a seat
-unfoldable pub seated : ℕ → ℕ → Sought
+unfoldable pub seated : ℕ → ℕ → Result ℕ Refusal
 seated s l =
-    cond (eqb (s / 16 % 16) 0) UnknownOpcode
-    (cond (eqb (s / 16 % 16) l) (Row (s / 1048576)) (cond (eqb (s % 16) l) (Row (s / 1048576 + 1)) WrongLength))
+    cond (eqb (s / 16 % 16) 0) (Err UnknownOpcode)
+    (cond (eqb (s / 16 % 16) l) (Ok (s / 1048576)) (cond (eqb (s % 16) l) (Ok (s / 1048576 + 1)) (Err WrongLength)))
 
 -- ---- opcodes of no row
 
@@ -126,16 +127,14 @@ first i (r ∷ rs) o e = go (eqb (op_of r) o) refl e (first (suc i) rs o)
         }
 
 -- each row is where the seat of its opcode leads, for its length
-is_row : ℕ → Sought → Bool
-is_row i (Row j) = eqb j i
-is_row i WrongLength = false
-is_row i UnknownOpcode = false
+is_row : ℕ → Result ℕ Refusal → Bool
+is_row i (Ok j) = eqb j i
+is_row i (Err x) = false
 
-row_is : (i : ℕ) (x : Sought) → T (is_row i x) → x ≡ Row i
+row_is : (i : ℕ) (x : Result ℕ Refusal) → T (is_row i x) → x ≡ Ok i
 unfolding is_row
-row_is i (Row j) t = ap Row (eqb→eq j i t)
-row_is i WrongLength t = absurd t
-row_is i UnknownOpcode t = absurd t
+row_is i (Ok j) t = ap Ok (eqb→eq j i t)
+row_is i (Err x) t = absurd t
 
 leads : ℕ → Bool
 leads i = is_row i (seated (seat_of (op_of (get_or rows i []))) (len_of (get_or rows i [])))
@@ -150,7 +149,7 @@ from_zero : (k : ℕ) → 0 + k ≡ k
 from_zero k = omega arith
 
 module _ (o l : ℕ) (two : 2 ≤ l) where
-  row-seated : find rows o l < kinds → seated (seat_of o) l ≡ Row (find rows o l)
+  row-seated : find rows o l < kinds → seated (seat_of o) l ≡ Ok (find rows o l)
   unfolding leads
   row-seated h =
       let i : ℕ = find rows o l in
@@ -183,7 +182,7 @@ module _ (o l : ℕ) (two : 2 ≤ l) where
             by true = (zero-le, λ e. omega arith)
             by false = (zero-le, λ e. omega arith)
 
-    wrong-seated : known rows o ≡ true → seated (seat_of o) l ≡ WrongLength
+    wrong-seated : known rows o ≡ true → seated (seat_of o) l ≡ Err WrongLength
     unfolding seated
     wrong-seated k =
         let f : First 0 rows o = first 0 rows o k in
@@ -200,7 +199,7 @@ module _ (o l : ℕ) (two : 2 ≤ l) where
         let some : a ≡ 0 → ⊥ = (λ z. omega (arith, r.least)) in
         simp (p, q, ne_eqb a 0 some, ne_eqb a l (no_row f.at h f.has), ne_eqb b l n.1)
 
-    unknown-seated : known rows o ≡ false → seated (seat_of o) l ≡ UnknownOpcode
+    unknown-seated : known rows o ≡ false → seated (seat_of o) l ≡ Err UnknownOpcode
     unfolding seated
     unknown-seated k = ap (λ (s : ℕ). seated s l) (seat-unknown o 0 rows k)
 
@@ -209,37 +208,37 @@ module _ (o l : ℕ) (two : 2 ≤ l) where
   unfolding sought
   seat-is = ⊎_elim missed found (le-or-lt kinds (find rows o l))
     where
-      found : find rows o l < kinds → seated (seat_of o) l ≡ cond (ltb (find rows o l) kinds) (Row (find rows o l))
-          (cond (known rows o) WrongLength UnknownOpcode)
+      found : find rows o l < kinds → seated (seat_of o) l ≡ cond (ltb (find rows o l) kinds) (Ok (find rows o l))
+          (cond (known rows o) (Err WrongLength) (Err UnknownOpcode))
       found h = row-seated h ∙ sym (simp (lt-ltb (find rows o l) kinds h))
 
-      missed : kinds ≤ find rows o l → seated (seat_of o) l ≡ cond (ltb (find rows o l) kinds) (Row (find rows o l))
-          (cond (known rows o) WrongLength UnknownOpcode)
+      missed : kinds ≤ find rows o l → seated (seat_of o) l ≡ cond (ltb (find rows o l) kinds) (Ok (find rows o l))
+          (cond (known rows o) (Err WrongLength) (Err UnknownOpcode))
       missed h = by (known rows o) refl ∙ sym (simp (le-ltb (find rows o l) kinds h))
         where
-          by : (b : Bool) → known rows o ≡ b → seated (seat_of o) l ≡ cond (known rows o) WrongLength UnknownOpcode
-          by true q = wrong-seated h q ∙ sym (ap (λ (b : Bool). cond b WrongLength UnknownOpcode) q)
-          by false q = unknown-seated h q ∙ sym (ap (λ (b : Bool). cond b WrongLength UnknownOpcode) q)
+          by : (b : Bool) → known rows o ≡ b → seated (seat_of o) l ≡ cond (known rows o) (Err WrongLength) (Err UnknownOpcode)
+          by true q = wrong-seated h q ∙ sym (ap (λ (b : Bool). cond b (Err WrongLength) (Err UnknownOpcode)) q)
+          by false q = unknown-seated h q ∙ sym (ap (λ (b : Bool). cond b (Err WrongLength) (Err UnknownOpcode)) q)
 
   -- each answer of the code
   module _ (s : ℕ) (es : s ≡ seat_of o) where
     whole : seated s l ≡ sought o l
     whole = ap (λ (x : ℕ). seated x l) es ∙ seat-is
 
-    pub seat-empty : s / 16 % 16 ≡ 0 → UnknownOpcode ≡ sought o l
+    pub seat-empty : s / 16 % 16 ≡ 0 → ◌≡◌ {A = Result ℕ Refusal} (Err UnknownOpcode) (sought o l)
     unfolding seated
     seat-empty e = sym (simp (eq-eqb (s / 16 % 16) 0 e)) ∙ whole
 
     module _ (some : s / 16 % 16 ≡ 0 → ⊥) where
-      pub seat-first : s / 16 % 16 ≡ l → Row (s / 1048576) ≡ sought o l
+      pub seat-first : s / 16 % 16 ≡ l → Ok (s / 1048576) ≡ sought o l
       unfolding seated
       seat-first e = sym (simp (ne_eqb (s / 16 % 16) 0 some, eq-eqb (s / 16 % 16) l e)) ∙ whole
 
       module _ (other : s / 16 % 16 ≡ l → ⊥) where
-        pub seat-second : s % 16 ≡ l → Row (s / 1048576 + 1) ≡ sought o l
+        pub seat-second : s % 16 ≡ l → Ok (s / 1048576 + 1) ≡ sought o l
         unfolding seated
         seat-second e = sym (simp (ne_eqb (s / 16 % 16) 0 some, ne_eqb (s / 16 % 16) l other, eq-eqb (s % 16) l e)) ∙ whole
 
-        pub seat-other : (s % 16 ≡ l → ⊥) → WrongLength ≡ sought o l
+        pub seat-other : (s % 16 ≡ l → ⊥) → ◌≡◌ {A = Result ℕ Refusal} (Err WrongLength) (sought o l)
         unfolding seated
         seat-other d = sym (simp (ne_eqb (s / 16 % 16) 0 some, ne_eqb (s / 16 % 16) l other, ne_eqb (s % 16) l d)) ∙ whole

@@ -1,6 +1,6 @@
 -- What the decoder answers: a frame's kind with its arguments, or the refusal with its place (REFERENCE, "Decoder", "Refusals").
 -- Assumes nothing.
-use Rattle.std.specs.Prelude.{ℕ, suc, ◌-◌, min, Bool, true, false, cond, List, [], ◌∷◌, ◌++◌, eqb, ltb, get_or, replicate, length}
+use Rattle.std.specs.Prelude.{ℕ, suc, ◌-◌, min, Bool, true, false, cond, List, [], ◌∷◌, ◌++◌, eqb, ltb, get_or, replicate, length, Result, Ok, Err}
 use Rattle.std.specs.Int.Bits.{bit_and}
 use Rattle.frame.specs.Layout.{tab, mask_of}
 use Rattle.table.specs.Number.{narrow_of, codes_of}
@@ -10,10 +10,6 @@ use Rattle.table.specs.Laid.{find}
 use Rattle.refusal.specs.declared.Refusal.{Refusal}
 use Rattle.refusal.specs.declared.Refusal.TheVariants.{ShortFrame, UnknownOpcode, WrongLength, StrayBit, UnknownCode}
 use Rattle.table.specs.Narrowed.{fields_of, opcode, arguments_in}
-use Rattle.decoder.specs.declared.Sought.{Sought}
-use Rattle.decoder.specs.declared.Sought.TheVariants.{Row}
-use Rattle.decoder.specs.declared.Sought.TheVariants as seek
-use Rattle.decoder.specs.declared.Answer.TheVariants.{Kind, Refused}
 use Rattle.decoder.specs.declared.Decoded.{Decoded}
 
 pub data Reading : Type 0 where
@@ -62,15 +58,14 @@ known [] op = false
 known (r ∷ rs) op = cond (eqb (op_of r) op) true (known rs op)
 
 -- the row that has the opcode and the length, and else whether any row has the opcode (REFERENCE, "Decoder")
-unfoldable pub sought : ℕ → ℕ → Sought
+unfoldable pub sought : ℕ → ℕ → Result ℕ Refusal
 sought op len =
-    cond (ltb (find rows op len) kinds) (Row (find rows op len)) (cond (known rows op) seek.WrongLength seek.UnknownOpcode)
+    cond (ltb (find rows op len) kinds) (Ok (find rows op len)) (cond (known rows op) (Err WrongLength) (Err UnknownOpcode))
 
 -- what a frame says for which such a row was sought
-unfoldable pub answered : List ℕ → Sought → Reading
-answered f (Row i) = judged (suc i) (get_or rows i []) f
-answered f seek.WrongLength = refuses WrongLength
-answered f seek.UnknownOpcode = refuses UnknownOpcode
+unfoldable pub answered : List ℕ → Result ℕ Refusal → Reading
+answered f (Ok i) = judged (suc i) (get_or rows i []) f
+answered f (Err x) = refuses x
 
 -- a frame is known by opcode and length together; one of under two bytes has no opcode (REFERENCE, "Decoder", "Refusals")
 unfoldable pub decode : List ℕ → Reading
@@ -78,6 +73,6 @@ decode f = cond (ltb (length f) 2) (refuses ShortFrame) (answered f (sought (opc
 
 -- ---- as the code hands it over: nine arguments, those that the kind does not have 0
 
-unfoldable pub decoded : Reading → Decoded
-decoded (reading k vs) = record { answer = Kind k; count = length vs; args = vs ++ replicate (9 - length vs) 0 }
-decoded (refuses x) = record { answer = Refused x; count = 0; args = replicate 9 0 }
+unfoldable pub decoded : Reading → Result Decoded Refusal
+decoded (reading k vs) = Ok (record { kind = k; count = length vs; args = vs ++ replicate (9 - length vs) 0 })
+decoded (refuses x) = Err x

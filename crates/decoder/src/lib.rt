@@ -10,56 +10,30 @@ ghost use Rattle.table.specs.Table.{kinds, row_at, len_of, count_of, numbers_of}
 ghost use Rattle.table.specs.Narrowed.{opcode};
 ghost use Rattle.decoder.specs.Words.{big_end, from, first_word, last_word, held_of, held_byte, clean_words, InWords, reached, all_reached};
 ghost use Rattle.decoder.specs.Words.{Whole, AllWhole, nine, all_taken};
-ghost use Rattle.decoder.specs.Decoding.{refuses, stray_at, lower, lacking, judged, sought, decode, decoded};
+ghost use Rattle.decoder.specs.Decoding.{stray_at, lower, lacking, judged, sought, decode, decoded};
 
 use refusal::Refusal;
 
 mod rows;
 mod seats;
 
-#[derive(Clone, Copy)]
-pub enum Answer {
-    Kind(u64),
-    Refused(Refusal),
-}
-
-// A frame's kind, and its first count arguments; zeros follow.
+// A frame's kind, and its first count arguments; zeros follow. An array with its count, since the library has no heap.
 #[derive(Clone, Copy)]
 pub struct Decoded {
-    pub answer: Answer,
+    pub kind: u64,
     pub count: usize,
     pub args: [u64; 9],
 }
 
-// What an opcode and a length lead to: the row at a place, or why there is none.
-#[derive(Clone, Copy)]
-pub enum Sought {
-    Row(usize),
-    WrongLength,
-    UnknownOpcode,
-}
-
-fn u32_as_usize(x: u32) -> usize
-    ensures { result ≡ x }
-{
-    x as usize
-}
-
 // ---- a frame in words
-
-fn u8_as_u64(x: u8) -> u64
-    ensures { (result ≡ x) × (result < 256) }
-{
-    x as u64
-}
 
 // The number of four bytes, high byte first.
 fn four(s: &[u8], at: usize) -> u64
     requires { at + 4 ≤ length s.now }
     ensures { (result ≡ big_end (from at (bytes s.now)) 4) × (result < 4294967296) }
 {
-    ((u8_as_u64(s[at]) * 256 + u8_as_u64(s[at + 1])) * 256 + u8_as_u64(s[at + 2])) * 256
-        + u8_as_u64(s[at + 3])
+    ((u64::from(s[at]) * 256 + u64::from(s[at + 1])) * 256 + u64::from(s[at + 2])) * 256
+        + u64::from(s[at + 3])
 }
 
 fn eight(s: &[u8], at: usize) -> u64
@@ -75,10 +49,8 @@ fn bytes_to(s: &[u8], n: usize) -> u64
     ensures { result ≡ big_end (bytes s.now) n }
 {
     let mut sum: u64 = 0;
-    let mut i: usize = 0;
-    while i < n {
-        sum = sum * 256 + u8_as_u64(s[i]);
-        i += 1;
+    for b in &s[..n] {
+        sum = sum * 256 + u64::from(*b);
     }
     sum
 }
@@ -156,11 +128,7 @@ fn held_at(i: usize) -> [u64; 2]
 fn is_clean(held: [u64; 2], first: u64, last: u64) -> bool
     ensures { result ≡ clean_words held first last }
 {
-    if first & held[0] == first {
-        last & held[1] == last
-    } else {
-        false
-    }
+    first & held[0] == first && last & held[1] == last
 }
 
 // ---- a row's fields
@@ -191,13 +159,6 @@ fn field_of(frame: &[u8], first: u64, last: u64, whole: u64, n: usize, number: u
         return bits_of(last, shift, f.w);
     }
     bits_of(first, 8 * (8 - end) + f.lo, f.w)
-}
-
-// Both are known already: no way branches off here.
-fn both(a: bool, b: bool) -> bool
-    ensures { result ≡ (a && b) }
-{
-    if a { b } else { false }
 }
 
 // The numbers that nine fields of a frame hold; whether no bit is stray for the row at a place, and each number is taken.
@@ -235,16 +196,17 @@ fn read_fields(
     let v7 = field_of(frame, first, last, whole, n, c7);
     let v8 = field_of(frame, first, last, whole, n, c8);
     *args = [v0, v1, v2, v3, v4, v5, v6, v7, v8];
-    let t8 = both(codes::is_taken(c8, v8), true);
-    let t7 = both(codes::is_taken(c7, v7), t8);
-    let t6 = both(codes::is_taken(c6, v6), t7);
-    let t5 = both(codes::is_taken(c5, v5), t6);
-    let t4 = both(codes::is_taken(c4, v4), t5);
-    let t3 = both(codes::is_taken(c3, v3), t4);
-    let t2 = both(codes::is_taken(c2, v2), t3);
-    let t1 = both(codes::is_taken(c1, v1), t2);
-    let t0 = both(codes::is_taken(c0, v0), t1);
-    both(is_clean(held_at(place), first, last), t0)
+    // All are known already: by `&` no way branches off here.
+    let t8 = codes::is_taken(c8, v8);
+    let t7 = codes::is_taken(c7, v7) & t8;
+    let t6 = codes::is_taken(c6, v6) & t7;
+    let t5 = codes::is_taken(c5, v5) & t6;
+    let t4 = codes::is_taken(c4, v4) & t5;
+    let t3 = codes::is_taken(c3, v3) & t4;
+    let t2 = codes::is_taken(c2, v2) & t3;
+    let t1 = codes::is_taken(c1, v1) & t2;
+    let t0 = codes::is_taken(c0, v0) & t1;
+    is_clean(held_at(place), first, last) & t0
 }
 
 // ---- the decoder
@@ -268,15 +230,13 @@ fn first_stray(place: usize, frame: &[u8]) -> usize
 {
     let held = held_at(place);
     let n = frame.len();
-    let mut i: usize = 0;
-    while i < n {
-        let b = u8_as_u64(frame[i]);
+    for (i, byte) in frame.iter().enumerate() {
+        let b = u64::from(*byte);
         if b & held_byte(held, n, i) != b {
             return i;
         }
-        i += 1;
     }
-    i
+    n
 }
 
 // What a field that holds v makes of the lowest byte so far.
@@ -287,7 +247,7 @@ fn lowered(number: u32, v: u64, low: usize) -> usize
         return low;
     }
     let f = table::narrow_field(number);
-    if f.first < low { f.first } else { low }
+    f.first.min(low)
 }
 
 // The lowest byte, below n, of a field that does not take what it holds, or n.
@@ -296,51 +256,37 @@ fn first_lacking(row: [u32; 13], args: [u64; 9], n: usize) -> usize
     ensures { result ≡ lacking n (numbers_of row) (take (count_of row) args) }
 {
     let mut low = n;
-    let mut j = u32_as_usize(row[3]);
-    while 0 < j {
-        j -= 1;
-        let next = lowered(row[4 + j], args[j], low);
-        low = next;
+    for j in (0..row[3] as usize).rev() {
+        low = lowered(row[4 + j], args[j], low);
     }
     low
-}
-
-fn refused(why: Refusal) -> Decoded
-    ensures { result ≡ decoded (refuses why) }
-{
-    let args = [0u64; 9];
-    Decoded {
-        answer: Answer::Refused(why),
-        count: 0,
-        args,
-    }
 }
 
 // The number of fields of the row at a place.
 fn count_at(i: usize) -> usize
     ensures { result ≡ count_of (row_at i) }
 {
-    u32_as_usize(table::head_at(i) / 256 % 16)
+    (table::head_at(i) / 256 % 16) as usize
 }
 
 // What a frame with the opcode and the length of the row at a place says. Only a refused one is gone over again, for the place.
-fn judge(i: usize, frame: &[u8]) -> Decoded
+fn judge(i: usize, frame: &[u8]) -> Result<Decoded, Refusal>
     requires { (i < kinds) × (len_of (row_at i) ≡ length frame.now) }
     ensures { result ≡ decoded (judged (i + 1) (row_at i) frame.now) }
 {
     let mut args = [0u64; 9];
     if rows::read_row(i, frame, &mut args) {
-        return Decoded {
-            answer: Answer::Kind((i + 1) as u64),
+        return Ok(Decoded {
+            kind: (i + 1) as u64,
             count: count_at(i),
             args,
-        };
+        });
     }
     let p = first_stray(i, frame);
     if p < frame.len() {
-        return refused(Refusal::StrayBit(p));
+        return Err(Refusal::StrayBit(p));
     }
-    refused(Refusal::UnknownCode(first_lacking(table::row_at(i), args, frame.len())))
+    Err(Refusal::UnknownCode(first_lacking(table::row_at(i), args, frame.len())))
 }
 
 // The opcode, which is the first two bytes.
@@ -348,39 +294,35 @@ fn opcode_of(frame: &[u8]) -> u64
     requires { 2 ≤ length frame.now }
     ensures { result ≡ opcode frame.now }
 {
-    u8_as_u64(frame[0]) * 256 + u8_as_u64(frame[1])
+    u64::from(frame[0]) * 256 + u64::from(frame[1])
 }
 
 // The row with this opcode and length.
-fn seek(op: u64, len: usize) -> Sought
+fn seek(op: u64, len: usize) -> Result<usize, Refusal>
     requires { 2 ≤ len }
     ensures { result ≡ sought op len }
 {
-    let seat = u32_as_usize(seats::seat_of(op));
+    let seat = seats::seat_of(op) as usize;
     if seat / 16 % 16 == 0 {
-        return Sought::UnknownOpcode;
+        return Err(Refusal::UnknownOpcode);
     }
     if seat / 16 % 16 == len {
-        return Sought::Row(seat / 0x10_0000);
+        return Ok(seat / 0x10_0000);
     }
     if seat % 16 == len {
-        return Sought::Row(seat / 0x10_0000 + 1);
+        return Ok(seat / 0x10_0000 + 1);
     }
-    Sought::WrongLength
+    Err(Refusal::WrongLength)
 }
 
 // A frame's kind and arguments, or why it has none.
-pub fn decode(frame: &[u8]) -> Decoded
+pub fn decode(frame: &[u8]) -> Result<Decoded, Refusal>
     ensures { result ≡ decoded (decode frame.now) }
 {
     let n = frame.len();
     if n < 2 {
-        return refused(Refusal::ShortFrame);
+        return Err(Refusal::ShortFrame);
     }
-    let row = seek(opcode_of(frame), n);
-    match row {
-        Sought::Row(i) => judge(i, frame),
-        Sought::WrongLength => refused(Refusal::WrongLength),
-        Sought::UnknownOpcode => refused(Refusal::UnknownOpcode),
-    }
+    let i = seek(opcode_of(frame), n)?;
+    judge(i, frame)
 }

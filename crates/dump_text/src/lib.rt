@@ -11,7 +11,6 @@ ghost use Rattle.dump_text.specs.Text.{blanked, head_of, line_of, text_of};
 ghost use Rattle.dump_text.specs.Parts.{longest, goes_on, lines_of, Puts, Passes};
 ghost use Rattle.dump_text.specs.Whole.{dumped, filled, laid_at, Lays};
 
-use decoder::Answer;
 use reel::{Cursor, Step};
 use refusal::Refusal;
 
@@ -121,15 +120,10 @@ fn put_line(out: &mut [u8], at: usize, index: u64, frame: &[u8]) -> usize
     requires { at + length (line_of index (decode frame.now)) ≤ length out.old }
     ensures { Puts (line_of index (decode frame.now)) at out.old result out.new }
 {
-    let d = decoder::decode(frame);
-    let answer = d.answer;
+    let answer = decoder::decode(frame);
     match answer {
-        Answer::Kind(kind) => {
-            let args = d.args;
-            let n = d.count;
-            put_kind(out, at, index, kind, &args[0..n])
-        }
-        Answer::Refused(why) => put_refusal(out, at, index, why),
+        Ok(d) => put_kind(out, at, index, d.kind, &d.args[..d.count]),
+        Err(why) => put_refusal(out, at, index, why),
     }
 }
 

@@ -2,11 +2,12 @@
 ghost use Rattle.std.specs.Prelude.{◌≡◌};
 ghost use Rattle.decoder.specs.Decoding.{decode, decoded};
 ghost use Rattle.builder.specs.Building.{checked, built, plain_by};
-ghost use Rattle.hoardbutton.specs.Frames.{verdict_c, kind_c, frame_c, decoded_c};
+ghost use Rattle.hoardbutton.specs.Frames.{frame_c, decoded_c};
 
-use crate::answers::{HbAnswer, done, low, refused};
-use builder::{Built, Verdict};
-use decoder::Answer;
+use crate::answers::{low, refused};
+use builder::Built;
+use decoder::Decoded;
+use refusal::Refusal;
 
 // A frame's length and bytes, zeros behind them; or a refusal with its place.
 #[repr(C)]
@@ -29,35 +30,29 @@ pub struct HbDecoded {
     pub args: [u64; 9],
 }
 
-fn verdict_told(v: Verdict) -> HbAnswer
-    ensures { result ≡ verdict_c v }
+fn framed(answer: Result<Built, Refusal>) -> HbFrame
+    ensures { result ≡ frame_c answer }
 {
-    match v {
-        Verdict::Frame(n) => done(n as u64),
-        Verdict::Refused(why) => refused(why),
-    }
-}
-
-fn kind_told(a: Answer) -> HbAnswer
-    ensures { result ≡ kind_c a }
-{
-    match a {
-        Answer::Kind(kind) => done(kind),
-        Answer::Refused(why) => refused(why),
-    }
-}
-
-fn framed(b: Built) -> HbFrame
-    ensures { result ≡ frame_c b }
-{
-    let bytes = b.bytes;
-    let v = b.verdict;
-    let told = verdict_told(v);
-    HbFrame {
-        refusal: told.refusal,
-        place: told.place,
-        len: low(told.value),
-        bytes,
+    match answer {
+        Ok(built) => {
+            let bytes = built.bytes;
+            HbFrame {
+                refusal: 0,
+                place: 0,
+                len: low(built.len as u64),
+                bytes,
+            }
+        }
+        Err(why) => {
+            let told = refused(why);
+            let bytes = [0u8; 12];
+            HbFrame {
+                refusal: told.refusal,
+                place: told.place,
+                len: 0,
+                bytes,
+            }
+        }
     }
 }
 
@@ -75,19 +70,37 @@ pub extern "C" fn hb_checked(kind: u64, args: &[u64]) -> HbFrame
     framed(builder::checked(kind, args))
 }
 
+fn decoded(answer: Result<Decoded, Refusal>) -> HbDecoded
+    ensures { result ≡ decoded_c answer }
+{
+    match answer {
+        Ok(d) => {
+            let args = d.args;
+            HbDecoded {
+                refusal: 0,
+                place: 0,
+                kind: low(d.kind),
+                count: low(d.count as u64),
+                args,
+            }
+        }
+        Err(why) => {
+            let said = refused(why);
+            let args = [0u64; 9];
+            HbDecoded {
+                refusal: said.refusal,
+                place: said.place,
+                kind: 0,
+                count: 0,
+                args,
+            }
+        }
+    }
+}
+
 #[unsafe(no_mangle)]
 pub extern "C" fn hb_decode(frame: &[u8]) -> HbDecoded
     ensures { result ≡ decoded_c (decoded (decode frame.now)) }
 {
-    let d = decoder::decode(frame);
-    let args = d.args;
-    let a = d.answer;
-    let said = kind_told(a);
-    HbDecoded {
-        refusal: said.refusal,
-        place: said.place,
-        kind: low(said.value),
-        count: low(d.count as u64),
-        args,
-    }
+    decoded(decoder::decode(frame))
 }

@@ -6,12 +6,16 @@ use mathlib.Core.List.{List, [], ◌++◌, ◌∷◌}
 use Prim.Native.Nat.{ℕ, suc, zero, ◌-◌, ◌<◌, ◌≤◌}
 use native.Mathlib.Omega.{arith}
 use borrow.Author.Tests.{le-leb, lt-ltb, ne_eqb}
+use Rattle.std.specs.Prelude.{Result, Ok, Err}
 use lib.ListN.{drop, get_or, length, replicate, take}
 use lib.Seq.{take_at}
 use Rattle.refusal.specs.declared.Refusal.{Refusal}
 use Rattle.refusal.specs.declared.Refusal.TheVariants.{NotHeld, SettingMissing}
 use Rattle.refusal.specs.Numbers.{number_of}
 use Rattle.decoder.specs.Decoding.{Reading, decode, decoded, reading, refuses}
+use Rattle.decoder.specs.declared.Decoded.{Decoded}
+use Rattle.decoder.proofs.Apart.{err-ok}
+use Rattle.decoder.proofs.Handed.{decoded-refuses}
 use Rattle.table.specs.Table.{settings}
 use Rattle.settings.specs.Settings.{size_of, slot_for}
 use Rattle.settings.proofs.Settings.{size-high, slot_of-length}
@@ -26,7 +30,7 @@ use Rattle.book.proofs.Laws.{frame-slot}
 use Rattle.locker_profile.specs.declared.Setting.{Setting}
 use Rattle.locker_profile.specs.declared.Answer.TheVariants.{Refused}
 use Rattle.locker_profile.specs.Profile.{answered, arguments_of, frame_for, lora_from, lora_of, profile_of, profiled}
-use Rattle.locker_profile.specs.Steps.{asked_of, given, missing_for, withheld}
+use Rattle.locker_profile.specs.Steps.{asked_of, given, handed, missing_for, withheld}
 use Rattle.locker_profile.proofs.Bounds.{opened_for-own, own-not}
 
 -- ---- the decoder's nine numbers
@@ -38,12 +42,23 @@ pad [] (suc n) (suc i) = pad [] n i
 pad (v ∷ vs) n zero = refl
 pad (v ∷ vs) n (suc i) = pad vs n i
 
--- behind its own arguments a frame has zeros
-argument_is : (f : List ℕ) (i : ℕ) → get_or (decoded (decode f)).args i 0 ≡ get_or (arguments_of (decode f)) i 0
+-- they are handed over, and none where the decoder refuses
+pub handed-reading : (x : Reading) (a : Result Decoded Refusal) (d : Decoded) → a ≡ decoded x → a ≡ Ok d → d.args ≡ handed x
 unfolding decoded
+handed-reading (reading k vs) a d e h =
+    let z : ◌≡◌ {A = Result Decoded Refusal} (Ok d) (decoded (reading k vs)) = sym h ∙ e in
+    let q : d ≡ record { kind = k; count = length vs; args = vs ++ replicate (9 - length vs) 0 } = cc in
+    ap (λ (y : Decoded). y.args) q
+handed-reading (refuses x) a d e h = absurd (err-ok (sym e ∙ h))
+
+pub handed-refuses : (x : Reading) (a : Result Decoded Refusal) (r : Refusal) → a ≡ decoded x → a ≡ Err r → replicate 9 0 ≡ handed x
+handed-refuses x a r e h = ap handed (sym (decoded-refuses x a r e h))
+
+-- behind its own arguments a frame has zeros
+argument_is : (f : List ℕ) (i : ℕ) → get_or (handed (decode f)) i 0 ≡ get_or (arguments_of (decode f)) i 0
 argument_is f i = by (decode f)
   where
-    by : (r : Reading) → get_or (decoded r).args i 0 ≡ get_or (arguments_of r) i 0
+    by : (r : Reading) → get_or (handed r) i 0 ≡ get_or (arguments_of r) i 0
     by (reading k vs) = pad vs (9 - length vs) i
     by (refuses x) = pad [] 9 i
 
@@ -128,7 +143,7 @@ pub record Has (k : ℕ) (c : Contents) (s : Setting) : Type 0 where
   pub frames : List (List ℕ)
   pub opens : c ≡ holds frames
   pub there : held (slot_for k) frames ≡ true
-  pub said : s.args ≡ (decoded (decode (frame_for k frames))).args
+  pub said : s.args ≡ (handed (decode (frame_for k frames)))
 
 module _ (k : ℕ) (s : Setting) where
   pub has : (c : Contents) (n : ℕ) → s ≡ asked_of k c → s.answer ≡ book.Done n → Has k c s
@@ -179,7 +194,7 @@ module _ (c : Contents) (x : Refusal) (one : Setting) (a : one ≡ asked_of 1 c)
           rw (h.opens, h.there, there, l.0) (ap (λ (r : Refusal). Refused r) l.1)
 
 -- the arguments that count are those of the three frames
-pub lora-same : (f g h : List ℕ) → lora_from (decoded (decode f)).args (decoded (decode g)).args (decoded (decode h)).args ≡ lora_of f g h
+pub lora-same : (f g h : List ℕ) → lora_from (handed (decode f)) (handed (decode g)) (handed (decode h)) ≡ lora_of f g h
 unfolding lora_of
 lora-same f g h =
     rw (argument_is f 0, argument_is f 1, argument_is f 2, argument_is f 3, argument_is g 2, argument_is g 3, argument_is h 0)
@@ -200,8 +215,8 @@ all-judged c one two four h i j =
       packet,
       sync,
       h.said,
-      i.said ∙ ap (λ (fs : List (List ℕ)). (decoded (decode (frame_for 2 fs))).args) second,
+      i.said ∙ ap (λ (fs : List (List ℕ)). (handed (decode (frame_for 2 fs)))) second,
       j.said
-          ∙ ap (λ (fs : List (List ℕ)). (decoded (decode (frame_for 4 fs))).args) fourth,
+          ∙ ap (λ (fs : List (List ℕ)). (handed (decode (frame_for 4 fs)))) fourth,
     )
     (ap answered (lora-same (frame_for 1 h.frames) (frame_for 2 h.frames) (frame_for 4 h.frames)))

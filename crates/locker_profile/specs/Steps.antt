@@ -1,11 +1,11 @@
 -- What the source hands from step to step on its way to the answer of specs/Profile.antt: a setting's arguments as the decoder hands them over,
 -- nine numbers of which those that the kind does not have are 0.
 -- Assumes nothing.
-use Rattle.std.specs.Prelude.{ℕ, cond, eqb, length, replicate}
+use Rattle.std.specs.Prelude.{ℕ, ◌-◌, List, ◌++◌, cond, eqb, length, replicate}
 use Rattle.refusal.specs.declared.Refusal.{Refusal}
 use Rattle.refusal.specs.declared.Refusal.TheVariants.{SettingMissing}
 use Rattle.refusal.specs.Numbers.{number_of}
-use Rattle.decoder.specs.Decoding.{Reading, decode, decoded}
+use Rattle.decoder.specs.Decoding.{Reading, decode, reading, refuses}
 use Rattle.settings.specs.Settings.{slot_for}
 use Rattle.contents.specs.Frames.{held}
 use Rattle.contents.specs.Contents.{Contents, holds, refused}
@@ -21,9 +21,14 @@ missing_for x = cond (eqb (number_of x) 9) SettingMissing x
 abbrev pub withheld : Refusal → Setting
 withheld x = record { answer = Refused x; args = replicate 9 0 }
 
+-- the nine numbers that the decoder hands over; none where it refuses
+abbrev pub handed : Reading → List ℕ
+handed (reading k vs) = vs ++ replicate (9 - length vs) 0
+handed (refuses x) = replicate 9 0
+
 -- one that is held, in a frame of n bytes
 abbrev pub given : ℕ → Reading → Setting
-given n r = record { answer = Done n; args = (decoded r).args }
+given n r = record { answer = Done n; args = handed r }
 
 -- what a book, as the calls find it, says of a kind
 abbrev pub asked_of : ℕ → Contents → Setting

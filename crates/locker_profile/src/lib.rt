@@ -4,12 +4,13 @@
 
 ghost use Rattle.std.specs.Prelude.{◌≡◌, not, true, ◌≤◌, ◌<◌};
 ghost use Rattle.table.specs.Table.{settings};
+ghost use Rattle.decoder.specs.Decoding.{decode};
 ghost use Rattle.settings.specs.Settings.{slot_for};
 ghost use Rattle.cmd_lora.specs.Methods.{over};
 ghost use Rattle.book.specs.Book.{opened_for, Read};
 ghost use Rattle.locker_profile.specs.Rules.{due_for, first_broken, is_long, rate, rules, spreading_factor, width, width_of};
 ghost use Rattle.locker_profile.specs.Profile.{answered, answer_for, lora_from};
-ghost use Rattle.locker_profile.specs.Steps.{asked_of, missing_for};
+ghost use Rattle.locker_profile.specs.Steps.{asked_of, handed, missing_for};
 
 use cmd_lora::{HeaderType, Ldro, LoraBw, LoraCr, Sf};
 use refusal::Refusal;
@@ -53,6 +54,17 @@ fn missing(why: Refusal) -> Refusal
     why
 }
 
+// The arguments of a frame; one that a book holds decodes.
+fn arguments_of(frame: &[u8]) -> [u64; 9]
+    ensures { result ≡ handed (decode frame.now) }
+{
+    let answer = decoder::decode(frame);
+    match answer {
+        Ok(decoded) => decoded.args,
+        Err(_) => [0u64; 9],
+    }
+}
+
 // No frame is longer than 12 bytes: an ask is refused by the book itself, or because it holds no frame of the kind.
 fn asked(book: &[u8], kind: u64) -> Setting
     requires { slot_for kind < settings }
@@ -62,8 +74,7 @@ fn asked(book: &[u8], kind: u64) -> Setting
     let answer = book::ask(book, kind, &mut frame);
     match answer {
         book::Answer::Done(n) => {
-            let decoded = decoder::decode(&frame[0..n]);
-            let args = decoded.args;
+            let args = arguments_of(&frame[0..n]);
             Setting { answer, args }
         }
         book::Answer::Refused(why) => Setting {

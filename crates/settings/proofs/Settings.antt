@@ -12,6 +12,7 @@ use Prim.Native.Nat.{suc, zero, ℕ, ◌+◌, ◌-◌, ◌<◌, ◌≤◌}
 use native.Mathlib.Omega.{arith}
 use borrow.Author.Tests.{eqb-true, le-leb, leb-true, lt-leb, lt-ltb, ltb-false, ltb-true}
 use lib.Dec.{eqb, leb, ltb}
+use Rattle.std.specs.Prelude.{Result, Ok, Err}
 use lib.ListN.{get_or, length}
 use Rattle.table.specs.Codes.{is_in}
 use Rattle.table.specs.Table.{action, kinds, len_of, row_of, rows, settings}
@@ -25,7 +26,6 @@ use Rattle.decoder.proofs.Handed.{decoded-reading, decoded-refuses}
 use Rattle.codec.proofs.Laws.{decode-kind}
 use Rattle.settings.specs.Settings.{lacks, lengths, size_of, slot_for, slot_in, slot_of}
 use Rattle.table.specs.Table as table
-use Rattle.decoder.specs.declared.Answer.TheVariants as decoder
 
 -- ---- a test that passes at every element passes at each
 
@@ -163,21 +163,21 @@ slot_of-length f h = go (decode f) refl h
     go (refuses y) e q = absurd (omega arith)
     go (reading k vs) e q = let d = decode-kind f k vs e in d.2 ∙ (row-suited k d.0 d.1 q).0
 
-module _ (f : List ℕ) (d : Decoded) (p : d ≡ decoded (decode f)) where
-  pub slot_of-kind : (k : ℕ) → d.answer ≡ decoder.Kind k → slot_for k ≡ slot_of f
+module _ (f : List ℕ) (a : Result Decoded Refusal) (p : a ≡ decoded (decode f)) where
+  pub slot_of-kind : (d : Decoded) → a ≡ Ok d → slot_for d.kind ≡ slot_of f
   unfolding slot_of
-  slot_of-kind k q = ap slot_in (sym (decoded-reading (decode f) d k p q))
+  slot_of-kind d q = ap slot_in (sym (decoded-reading (decode f) a d p q))
 
-  pub slot_of-none : (x : Refusal) → d.answer ≡ decoder.Refused x → action ≡ slot_of f
+  pub slot_of-none : (x : Refusal) → a ≡ Err x → action ≡ slot_of f
   unfolding slot_of
-  slot_of-none x q = ap slot_in (sym (decoded-refuses (decode f) d x p q))
+  slot_of-none x q = ap slot_in (sym (decoded-refuses (decode f) a x p q))
 
   -- why it is no setting: a frame that decodes is an action's, and else the decoder's refusal is the answer
-  pub lacks-kind : (k : ℕ) → d.answer ≡ decoder.Kind k → lacks (decode f) ≡ NotAKind
-  lacks-kind k q = ap lacks (decoded-reading (decode f) d k p q)
+  pub lacks-kind : (d : Decoded) → a ≡ Ok d → lacks (decode f) ≡ NotAKind
+  lacks-kind d q = ap lacks (decoded-reading (decode f) a d p q)
 
-  pub lacks-own : (x : Refusal) → d.answer ≡ decoder.Refused x → lacks (decode f) ≡ x
-  lacks-own x q = ap lacks (decoded-refuses (decode f) d x p q)
+  pub lacks-own : (x : Refusal) → a ≡ Err x → lacks (decode f) ≡ x
+  lacks-own x q = ap lacks (decoded-refuses (decode f) a x p q)
 
 -- ---- by number
 

@@ -73,10 +73,8 @@ pub fn size_of(slot: usize) -> usize
 pub fn slot_of(frame: &[u8]) -> usize
     ensures { result ≡ slot_of frame.now }
 {
-    let decoded = decoder::decode(frame);
-    let answer = decoded.answer;
-    let decoder::Answer::Kind(kind) = answer else {
+    let Ok(decoded) = decoder::decode(frame) else {
         return NO_SLOT;
     };
-    slot_for(kind)
+    slot_for(decoded.kind)
 }

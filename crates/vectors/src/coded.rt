@@ -21,15 +21,12 @@ fn arguments(a: Answer, v: [u64; 9]) -> Answer {
 
 // Refusal, place, kind, count, four zeros, the nine arguments.
 pub fn decoded(frame: &[u8]) -> Answer {
-    let d = decoder::decode(frame);
-    let said = d.answer;
-    let v = d.args;
-    match said {
-        decoder::Answer::Refused(why) => refused(why),
-        decoder::Answer::Kind(kind) => {
-            let head = Answer::new().put_u16(0).low(kind).low(d.count as u64);
-            arguments(head.put_u32(0), v)
+    match decoder::decode(frame) {
+        Ok(d) => {
+            let head = Answer::new().put_u16(0).low(d.kind).low(d.count as u64);
+            arguments(head.put_u32(0), d.args)
         }
+        Err(why) => refused(why),
     }
 }
 
@@ -50,11 +47,8 @@ pub fn built(count: usize, p: &[u8]) -> Answer {
     if 12 < count {
         return Answer::new();
     }
-    let b = builder::checked(u64_at(p, 0), &args[0..count]);
-    let said = b.verdict;
-    let f = b.bytes;
-    match said {
-        builder::Verdict::Refused(why) => refused(why),
-        builder::Verdict::Frame(len) => Answer::new().put_u16(0).low(len as u64).bytes(&f),
+    match builder::checked(u64_at(p, 0), &args[0..count]) {
+        Ok(b) => Answer::new().put_u16(0).low(b.len as u64).bytes(&b.bytes),
+        Err(why) => refused(why),
     }
 }

@@ -19,7 +19,7 @@ returns-in_default-answer c =
     let bytes : Bytes c.args.book.now = λ i. (c.slice_known-1.given i).fits in
     let passed : Done 0 ≡ verdict (opened ours c.args.book.now) = done-nought (opened ours _) _ (sym c.in-Done.is ∙ c.ready_to_edit-found.ensures ∙ ap verdict serving.opens) in
     let known : Holds ours c.args.book.now = opened-holds ours _ 0 passed in
-    let d = c.decode-decoded in
+    let d = c.decode-answer in
     let x = c.in_default-answer.is in
     rw (c.declined.ensures, x)
     (permits-for _ _ _ Edit ours serving _ _ _
@@ -29,7 +29,7 @@ pub put_setting-requires : goal.put_setting-requires
 put_setting-requires c =
     let serving : Serves Edit ours c.args.book.now = edit-serves _ _ (sym c.in-Done.is ∙ c.ready_to_edit-found.ensures) in
     let passed : Done 0 ≡ verdict (opened ours c.args.book.now) = done-nought (opened ours _) _ (sym c.in-Done.is ∙ c.ready_to_edit-found.ensures ∙ ap verdict serving.opens) in
-    let own : c.slot_for-slot.result ≡ slot_of c.args.frame.now = c.slot_for-slot.ensures ∙ slot_of-kind _ _ c.decode-decoded.ensures _ c.in-Kind.is in
+    let own : c.slot_for-slot.result ≡ slot_of c.args.frame.now = c.slot_for-slot.ensures ∙ slot_of-kind _ _ c.decode-answer.ensures _ c.in-Ok.is in
     (passed, own, c.if-slot-lt-SETTINGS.true)
 
 pub returns-then-slot-lt-SETTINGS : goal.returns-then-slot-lt-SETTINGS
@@ -43,8 +43,8 @@ returns c =
     let bytes : Bytes c.args.book.now = λ i. (c.slice_known-1.given i).fits in
     let passed : Done 0 ≡ verdict (opened ours c.args.book.now) = done-nought (opened ours _) _ (sym c.in-Done.is ∙ c.ready_to_edit-found.ensures ∙ ap verdict serving.opens) in
     let known : Holds ours c.args.book.now = opened-holds ours _ 0 passed in
-    let own : c.slot_for-slot.result ≡ slot_of c.args.frame.now = c.slot_for-slot.ensures ∙ slot_of-kind _ _ c.decode-decoded.ensures _ c.in-Kind.is in
-    let k = c.in-Kind.is in
+    let own : c.slot_for-slot.result ≡ slot_of c.args.frame.now = c.slot_for-slot.ensures ∙ slot_of-kind _ _ c.decode-answer.ensures _ c.in-Ok.is in
+    let k = c.in-Ok.is in
     let p = permits-for _ _ _ Edit ours serving _ _ _ (put-bad ours _ bytes known _ _ own c.if-slot-lt-SETTINGS.false _
-    (lacks-kind _ _ c.decode-decoded.ensures _ k)) in
+    (lacks-kind _ _ c.decode-answer.ensures _ k)) in
     (c.declined-2.ensures ∙ p.0, p.1)

@@ -1,38 +1,38 @@
-use mathlib.Core.Path.{◌≡◌, ap, ◌∙◌}
+use mathlib.Core.Path.{◌≡◌, refl, ap}
 use borrow.Author.Rules.{rules}
 use lib.ListN.{length}
 use Rattle.builder.specs.Building.{built}
 use Rattle.builder.proofs.Returns.{few, built-misfit, arguments-many, built-frame}
 use Rattle.builder.proofs.build.Goals as goal
 
-pub first_misfit-misfit-requires : goal.first_misfit-misfit-requires
-first_misfit-misfit-requires c = few _ c.requires _ c.row_at-row.ensures
+pub first_misfit-requires : goal.first_misfit-requires
+first_misfit-requires g c = few _ c.requires _ c.row_at-row.ensures
 
 pub packed-bytes-requires : goal.packed-bytes-requires
-packed-bytes-requires c =
+packed-bytes-requires g c =
     let r = c.row_at-row in
-    let m = c.first_misfit-misfit in
+    let m = c.first_misfit in
     let n1 : length r.result ≡ 13 = search rules in (
       few c.args.i c.requires r.result r.ensures,
-      arguments-many c.args.way c.args.i c.requires r.result r.ensures n1 c.args.args.now m.result m.ensures
-          c.in-None.is,
+      arguments-many g.W.Way.field g.W.Way.frame g.met.W.Way.makes g.W.Way.takes c.args.i c.requires r.result r.ensures n1 c.args.args.now m.result m.ensures
+          c.in_default.is,
     )
 
-pub returns-in-At : goal.returns-in-At
-returns-in-At c =
+pub returns-in-Some : goal.returns-in-Some
+unfolding built
+returns-in-Some g c =
     let r = c.row_at-row in
-    let m = c.first_misfit-misfit in
+    let m = c.first_misfit in
     let n1 : length r.result ≡ 13 = search rules in
-    c.declined.ensures
-    ∙ ap built (built-misfit c.args.way c.args.i c.requires r.result r.ensures n1 c.args.args.now m.result m.ensures _
-    c.in-At.is)
+    ap built (built-misfit g.W.Way.field g.W.Way.frame g.met.W.Way.makes g.W.Way.takes c.args.i c.requires r.result r.ensures n1 c.args.args.now m.result m.ensures _
+    c.in-Some.is)
 
-pub returns-in-None : goal.returns-in-None
-returns-in-None c =
+pub returns : goal.returns
+returns g c =
     let r = c.row_at-row in
-    let m = c.first_misfit-misfit in
+    let m = c.first_misfit in
     let n1 : length r.result ≡ 13 = search rules in
-    built-frame c.args.way c.args.i c.requires r.result r.ensures n1 c.args.args.now m.result m.ensures
-    c.in-None.is
-    c.u32_as_u64.result c.u32_as_usize.result c.packed-bytes.result
-    c.u32_as_u64.ensures c.u32_as_usize.ensures c.packed-bytes.ensures
+    built-frame g.W.Way.field g.W.Way.frame g.met.W.Way.makes g.W.Way.takes c.args.i c.requires r.result r.ensures n1 c.args.args.now m.result m.ensures
+    c.in_default.is
+    c.from.result _ c.packed-bytes.result
+    c.from.ensures refl c.packed-bytes.ensures

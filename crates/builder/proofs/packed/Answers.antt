@@ -14,17 +14,17 @@ use Rattle.builder.proofs.packed.Goals as goal
 
 pub loop-j-init : goal.loop-j-init
 unfolding fields_by
-loop-j-init c = (
+loop-j-init g c = (
   search rules,
   c.requires.0,
   c.requires.1,
   ap length c.put.ensures ∙ length-put _ _ _,
-  ap (λ (o : List ℕ). puts o (fields_by c.args.way (numbers_of c.args.row)) c.args.args.now)
+  ap (λ (o : List ℕ). puts o (fields_by g.W.Way.field (numbers_of c.args.row)) c.args.args.now)
       (sym (c.put.ensures ∙ ap (λ (f : Field). put (replicate 12 0) f c.args.op) c.field_of.ensures)),
 )
 
 pub loop-j-preserved : goal.loop-j-preserved
-loop-j-preserved c =
+loop-j-preserved g c =
     let l = c.loop-j in
     let n1 : length c.args.row ≡ 13 = search rules in (
       omega arith,
@@ -32,12 +32,12 @@ loop-j-preserved c =
       c.requires.1,
       ap length c.put-in-loop-j.ensures ∙ length-put _ _ _ ∙ l.invariant.3,
       l.invariant.4
-          ∙ packs-more c.args.row n1 c.requires.0 c.args.way c.args.args.now l.out _ _ l.j (omega arith) c.requires.1
+          ∙ packs-more c.args.row n1 c.requires.0 g.W.Way.field c.args.args.now l.out _ _ l.j (omega arith) c.requires.1
           c.field_of-in-loop-j.ensures c.put-in-loop-j.ensures,
     )
 
 pub returns : goal.returns
-returns c =
+returns g c =
     let l = c.loop-j in
     let n1 : length c.args.row ≡ 13 = search rules in
-    sym (l.invariant.4 ∙ packs-end c.args.row n1 c.requires.0 c.args.way c.args.args.now l.out l.j (omega arith))
+    sym (l.invariant.4 ∙ packs-end c.args.row n1 c.requires.0 g.W.Way.field c.args.args.now l.out l.j (omega arith))

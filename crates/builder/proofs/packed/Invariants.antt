@@ -1,5 +1,5 @@
 -- The loop's invariant: what the whole list gives is what the fields from j on put into the bytes so far. Assumes nothing.
-use Prim.Native.Nat.{◌-◌, ◌≤◌}
+use Prim.Native.Nat.{◌≤◌}
 use mathlib.Core.Path.{◌≡◌}
 use mathlib.Core.List.{◌∷◌}
 use lib.ListN.{length, drop, replicate}
@@ -9,9 +9,6 @@ use Rattle.builder.specs.Ways.{fields_by, row_by}
 use Rattle.builder.proofs.packed.Given as goal
 
 abbrev pub invariant-loop-j : goal.invariant-loop-j
-invariant-loop-j l =
+invariant-loop-j g l =
     (l.j ≤ count_of l.row) × (count_of l.row ≤ 9) × (length l.args ≡ count_of l.row) × (length l.out ≡ 12)
-    × (puts (replicate 12 0) (row_by l.way l.row) (l.op ∷ l.args) ≡ puts l.out (fields_by l.way (drop l.j (numbers_of l.row))) (drop l.j l.args))
-
-abbrev pub decreases-loop-j : goal.decreases-loop-j
-decreases-loop-j l = count_of l.row - l.j
+    × (puts (replicate 12 0) (row_by g.W.Way.field l.row) (l.op ∷ l.args) ≡ puts l.out (fields_by g.W.Way.field (drop l.j (numbers_of l.row))) (drop l.j l.args))

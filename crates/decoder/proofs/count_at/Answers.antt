@@ -11,4 +11,4 @@ unfolding head_at row_at
 counted i = head-count (min i (kinds - 1)) (omega arith)
 
 pub returns : goal.returns
-returns c = c.u32_as_usize.ensures ∙ ap (λ (x : ℕ). x / 256 % 16) c.head_at.ensures ∙ counted c.args.i
+returns c = ap (λ (x : ℕ). x / 256 % 16) c.head_at.ensures ∙ counted c.args.i

@@ -1,43 +1,33 @@
 use mathlib.Core.Path.{sym, ap, ◌∙◌}
-use Rattle.decoder.specs.declared.Sought.{Sought}
-use Rattle.decoder.specs.Decoding.{answered, decoded}
-use Rattle.decoder.proofs.Returns.{decode-short, decode-sought, row-place, row-length, decode-row}
+use Rattle.std.specs.Prelude.{Err}
+use Rattle.std.proofs.lemmas.Result.{err_from_is_err_and}
+use Rattle.decoder.specs.Decoding.{decoded}
+use Rattle.decoder.proofs.Returns.{decode-short, row-place, row-length, decode-row, decode-refused}
 use Rattle.decoder.proofs.decode.Goals as goal
 
 pub returns-then-n-lt2 : goal.returns-then-n-lt2
-returns-then-n-lt2 c = c.refused.ensures ∙ ap decoded (sym (decode-short c.args.frame.now c.if-n-lt2.true))
+unfolding decoded
+returns-then-n-lt2 c = ap decoded (sym (decode-short c.args.frame.now c.if-n-lt2.true))
+
+pub returns-in_err-i : goal.returns-in_err-i
+unfolding decoded
+returns-in_err-i c =
+    let o = c.opcode_of in
+    let p = err_from_is_err_and c.from_residual.result c.from_residual.ensures.1 in
+    p.1 ∙ ap Err p.2
+    ∙ ap decoded (decode-refused c.args.frame.now o.result c.seek.result o.ensures c.seek.ensures _ c.in_err-i.was c.if-n-lt2.false)
 
 pub judge-requires : goal.judge-requires
 judge-requires c =
     let f = c.args.frame.now in
-    let o = c.opcode_of in
-    let x = c.in-Row.is in (
-      row-place f o.result c.seek-row.result o.ensures c.seek-row.ensures _ x,
-      row-length f o.result c.seek-row.result o.ensures c.seek-row.ensures _ x,
+    let o = c.opcode_of in (
+      row-place f o.result c.seek.result o.ensures c.seek.ensures _ c.in_ok-i.was,
+      row-length f o.result c.seek.result o.ensures c.seek.ensures _ c.in_ok-i.was,
     )
 
-pub returns-in-Row : goal.returns-in-Row
-returns-in-Row c =
+pub returns : goal.returns
+returns c =
     let f = c.args.frame.now in
     let o = c.opcode_of in
-    let x = c.in-Row.is in
     c.judge.ensures
-    ∙ ap decoded (decode-row f o.result c.seek-row.result o.ensures c.seek-row.ensures _ x c.if-n-lt2.false)
-
-pub returns-in-WrongLength : goal.returns-in-WrongLength
-unfolding answered
-returns-in-WrongLength c =
-    let f = c.args.frame.now in
-    let o = c.opcode_of in
-    c.refused-in-WrongLength.ensures
-    ∙ ap (λ (x : Sought). decoded (answered f x)) (sym c.in-WrongLength.is)
-    ∙ ap decoded (decode-sought f o.result c.seek-row.result o.ensures c.seek-row.ensures c.if-n-lt2.false)
-
-pub returns-in-UnknownOpcode : goal.returns-in-UnknownOpcode
-unfolding answered
-returns-in-UnknownOpcode c =
-    let f = c.args.frame.now in
-    let o = c.opcode_of in
-    c.refused-in-UnknownOpcode.ensures
-    ∙ ap (λ (x : Sought). decoded (answered f x)) (sym c.in-UnknownOpcode.is)
-    ∙ ap decoded (decode-sought f o.result c.seek-row.result o.ensures c.seek-row.ensures c.if-n-lt2.false)
+    ∙ ap decoded (decode-row f o.result c.seek.result o.ensures c.seek.ensures _ c.in_ok-i.was c.if-n-lt2.false)

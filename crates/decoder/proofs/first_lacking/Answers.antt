@@ -6,7 +6,6 @@ use lib.ListN.{length, drop, take}
 use Rattle.table.specs.Table.{count_of}
 use Rattle.decoder.specs.Decoding.{lower}
 use Rattle.decoder.proofs.Fields.{lacking-none, lacking-more}
-use Rattle.decoder.proofs.first_lacking.Invariants.{from}
 use Rattle.decoder.proofs.first_lacking.Goals as goal
 
 pub loop-j-init : goal.loop-j-init
@@ -15,8 +14,7 @@ loop-j-init c =
     let n1 : length a.row ≡ 13 = search rules in (
       omega arith,
       c.requires,
-      sym (lacking-none a.row n1 c.requires a.n (drop (count_of a.row) (take (count_of a.row) a.args)))
-          ∙ sym (ap (from a.n a.row a.args) c.u32_as_usize-j.ensures),
+      sym (lacking-none a.row n1 c.requires a.n (drop (count_of a.row) (take (count_of a.row) a.args))),
     )
 
 pub loop-j-preserved : goal.loop-j-preserved
@@ -26,6 +24,6 @@ loop-j-preserved c =
     let n2 : length c.args.args ≡ 9 = search rules in (
       omega arith,
       c.requires,
-      c.lowered-next.ensures ∙ ap (lower _ _) l.invariant.2 ∙ lacking-more c.args.row n1 c.requires c.args.n c.args.args l.j n2
+      c.lowered-low.ensures ∙ ap (lower _ _) l.invariant.2 ∙ lacking-more c.args.row n1 c.requires c.args.n c.args.args l.j n2
           c.loop-j-test.true l.invariant.0,
     )

@@ -12,6 +12,3 @@ from n row args j = lacking n (drop j (numbers_of row)) (drop j (take (count_of 
 
 abbrev pub invariant-loop-j : goal.invariant-loop-j
 invariant-loop-j l = (l.j ≤ count_of l.row) × (count_of l.row ≤ 9) × (l.low ≡ from l.n l.row l.args l.j)
-
-abbrev pub decreases-loop-j : goal.decreases-loop-j
-decreases-loop-j l = l.j

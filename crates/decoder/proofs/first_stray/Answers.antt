@@ -21,7 +21,7 @@ returns-then-b-held_byte c =
     let i = c.loop-i.i in
     let r = row-ready c.args.place (row_at c.args.place) refl c.requires.0 in
     let x = c.held_byte.ensures ∙ ap (λ (h : List ℕ). held_byte h (length c.args.frame.now) i) c.held_at-held.ensures in
-    let z = byte-stray (row_at c.args.place) c.args.frame.now r c.requires.1 i (omega arith) _ _ c.u8_as_u64-b.ensures.0 x
+    let z = byte-stray (row_at c.args.place) c.args.frame.now r c.requires.1 i (omega arith) _ _ c.from-b.ensures x
     c.if-b-held_byte.true in
     omega (arith, z)
 
@@ -30,7 +30,7 @@ loop-i-preserved c =
     let i = c.loop-i.i in
     let r = row-ready c.args.place (row_at c.args.place) refl c.requires.0 in
     let x = c.held_byte.ensures ∙ ap (λ (h : List ℕ). held_byte h (length c.args.frame.now) i) c.held_at-held.ensures in
-    let z = byte-clean (row_at c.args.place) c.args.frame.now r c.requires.1 i (omega arith) _ _ c.u8_as_u64-b.ensures.0 x
+    let z = byte-clean (row_at c.args.place) c.args.frame.now r c.requires.1 i (omega arith) _ _ c.from-b.ensures x
     c.if-b-held_byte.false in
     (omega arith, omega (arith, z))
 

@@ -1,4 +1,4 @@
-use mathlib.Core.Path.{sym, ap}
+use mathlib.Core.Path.{sym, ap, ◌∙◌}
 use mathlib.Core.Bool.{Bool, ◌&&◌}
 use borrow.Author.Tests.{eq-eqb, ne_eqb}
 use lib.Bits.{bit_and}
@@ -17,4 +17,5 @@ pub returns-else-first-held : goal.returns-else-first-held
 unfolding clean_words
 returns-else-first-held c =
     let a = c.args in
-    sym (ap (λ (b : Bool). b && eqb (bit_and a.last (get_or a.held 1 0)) a.last) (ne_eqb _ _ c.if-first-held.false))
+    let e = ne_eqb _ _ c.if-first-held.false in
+    e ∙ sym (ap (λ (b : Bool). b && eqb (bit_and a.last (get_or a.held 1 0)) a.last) e)

@@ -31,9 +31,9 @@ returns-then-read_row c =
     c.count_at.result (omega arith) c.count_at.ensures
 
 pub returns-then-p-frame : goal.returns-then-p-frame
+unfolding decoded
 returns-then-p-frame c =
-    c.refused.ensures
-    ∙ ap decoded (sym (judged-stray (row_at c.args.i) c.args.frame.now (c.args.i + 1) c.first_stray-p.result c.first_stray-p.ensures
+    ap decoded (sym (judged-stray (row_at c.args.i) c.args.frame.now (c.args.i + 1) c.first_stray-p.result c.first_stray-p.ensures
     c.if-p-frame.true))
 
 pub first_lacking-requires : goal.first_lacking-requires
@@ -42,6 +42,7 @@ first_lacking-requires c =
     subst (λ (r : List ℕ). count_of r ≤ 9) (sym c.row_at.ensures) good.few
 
 pub returns : goal.returns
+unfolding decoded
 returns c =
     let good : Ready (row_at c.args.i) = row-ready c.args.i _ refl c.requires.0 in
     let w = c.row_at in
@@ -54,7 +55,6 @@ returns c =
     let e : (x && y) ≡ false = sym c.read_row.ensures.0 ∙ c.if-read_row.false in
     let t : y ≡ false =
     and_none x y (clean-frame r f good c.requires.1 (λ j. omega (arith, c.shared_slice_known-1.given j)) clean) e in
-    c.refused-2.ensures
-    ∙ ap decoded (sym (judged-lacking r f (row-whole i c.requires.0) good clean (subst (λ (m : ℕ). T (start_below m (numbers_of r)))
+    ap decoded (sym (judged-lacking r f (row-whole i c.requires.0) good clean (subst (λ (m : ℕ). T (start_below m (numbers_of r)))
     c.requires.1 (row-starts i c.requires.0))
     t _ c.read_row.ensures.1 _ w.ensures _ c.first_lacking.ensures (i + 1)))

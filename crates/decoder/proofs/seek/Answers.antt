@@ -1,26 +1,21 @@
-use mathlib.Core.Path.{◌∙◌}
 use Rattle.decoder.proofs.Seeking.{seat-empty, seat-first, seat-second, seat-other}
 use Rattle.decoder.proofs.seek.Goals as goal
 
 pub returns-then-seat-eq0 : goal.returns-then-seat-eq0
 returns-then-seat-eq0 c =
-    let w = c.u32_as_usize-seat in
-    seat-empty c.args.op c.args.len c.requires w.result (w.ensures ∙ c.seat_of.ensures) c.if-seat-eq0.true
+    seat-empty c.args.op c.args.len c.requires _ c.seat_of-seat.ensures c.if-seat-eq0.true
 
 pub returns-then-seat-len : goal.returns-then-seat-len
 returns-then-seat-len c =
-    let w = c.u32_as_usize-seat in
-    seat-first c.args.op c.args.len c.requires w.result (w.ensures ∙ c.seat_of.ensures) c.if-seat-eq0.false
+    seat-first c.args.op c.args.len c.requires _ c.seat_of-seat.ensures c.if-seat-eq0.false
     c.if-seat-len.true
 
 pub returns-then-seat-len-2 : goal.returns-then-seat-len-2
 returns-then-seat-len-2 c =
-    let w = c.u32_as_usize-seat in
-    seat-second c.args.op c.args.len c.requires w.result (w.ensures ∙ c.seat_of.ensures)
+    seat-second c.args.op c.args.len c.requires _ c.seat_of-seat.ensures
     c.if-seat-eq0.false c.if-seat-len.false c.if-seat-len-2.true
 
 pub returns : goal.returns
 returns c =
-    let w = c.u32_as_usize-seat in
-    seat-other c.args.op c.args.len c.requires w.result (w.ensures ∙ c.seat_of.ensures)
+    seat-other c.args.op c.args.len c.requires _ c.seat_of-seat.ensures
     c.if-seat-eq0.false c.if-seat-len.false c.if-seat-len-2.false

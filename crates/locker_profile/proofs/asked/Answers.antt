@@ -1,25 +1,25 @@
 use mathlib.Core.Path.{ap, refl, sym, ◌∙◌}
+use mathlib.Core.List.{List}
 use Prim.Native.Nat.{ℕ}
 use native.Mathlib.Nat.{sub-zero}
 use native.Mathlib.Omega.{arith}
 use borrow.Author.Rules.{rules}
 use lib.ListN.{take}
-use Rattle.decoder.specs.declared.Decoded.{Decoded}
-use Rattle.decoder.specs.Decoding.{decode, decoded}
+use Rattle.decoder.specs.Decoding.{decode}
 use Rattle.book.specs.declared.Answer.TheVariants.{Done}
-use Rattle.locker_profile.specs.Steps.{withheld}
+use Rattle.locker_profile.specs.Steps.{handed, withheld}
 use Rattle.locker_profile.proofs.Asking.{ask-held, ask-missing, ask-most}
 use Rattle.locker_profile.proofs.asked.Goals as goal
 
-pub slice_bounds-decode-end : goal.slice_bounds-decode-end
-slice_bounds-decode-end c =
+pub slice_bounds-arguments_of-end : goal.slice_bounds-arguments_of-end
+slice_bounds-arguments_of-end c =
     omega (arith, ask-most c.args.kind c.requires _ refl _ c.in-Done.n (sym c.in-Done.is ∙ c.ask-answer.ensures.0))
 
 pub returns-in-Done : goal.returns-in-Done
 returns-in-Done c =
     let m = c.in-Done.n in
-    ap (λ (r : Decoded). record { answer = Done m; args = r.args })
-    (c.decode-decoded.ensures ∙ ap (λ (j : ℕ). decoded (decode (take j c.ask-answer.new.out))) (sub-zero m))
+    ap (λ (l : List ℕ). record { answer = Done m; args = l })
+    (c.arguments_of-args.ensures ∙ ap (λ (j : ℕ). handed (decode (take j c.ask-answer.new.out))) (sub-zero m))
     ∙ ask-held _ c.requires _ refl _ m _ (sym c.in-Done.is ∙ c.ask-answer.ensures.0) c.ask-answer.ensures.1
 
 pub returns-in-Refused : goal.returns-in-Refused
