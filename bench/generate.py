@@ -21,7 +21,7 @@ def read(crate):
     text = open(f"crates/{crate}/src/lib.rt", encoding="utf8").read()
     enums = {}
     for name, body in re.findall(r"pub enum (\w+) \{\n(.*?)\n\}", text, re.S):
-        enums[name] = re.findall(r"(\w+),", body)
+        enums[name] = re.findall(r"(\w+) = \d+,", body)
     builders = []
     for kind, name, params, size in re.findall(r"// Kind (\d+)\..*?\npub fn (\w+)\((.*?)\) -> \[u8; (\d+)\]", text, re.S):
         params = [tuple(p.strip().split(": ")) for p in params.split(",") if p.strip()]
@@ -117,9 +117,7 @@ def main():
     enums, builders = {}, []
     for crate in files(data):
         e, b = read(crate)
-        for name, variants in e.items():
-            if name != "Ordering":
-                enums[(crate, name)] = variants
+        enums.update({(crate, name): variants for name, variants in e.items()})
         builders += b
     assert [b[0] for b in builders] == [k["kind"] for k in data["kinds"]], "a builder is missing"
     made = {"port/src/lib.rt": port(enums, builders), "rust.rs": rust(data, enums, builders), "driver.c": driver(data, enums, builders),

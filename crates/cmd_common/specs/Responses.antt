@@ -1,18 +1,13 @@
 -- The responses to the common commands: where each field stands behind the status (REFERENCE, "Responses"). Another length is refused.
 -- Assumes nothing.
-use Rattle.std.specs.Prelude.{ℕ, cond, List, eqb, length}
+use Rattle.std.specs.Prelude.{ℕ, cond, List, Result, Ok, Err, eqb, length}
 use Rattle.status.specs.Notation.{wide, half}
 use Rattle.status.specs.Words.{status_of}
+use Rattle.refusal.specs.declared.Refusal.{Refusal}
 use Rattle.refusal.specs.declared.Refusal.TheVariants.{ResponseLength}
 use Rattle.cmd_common.specs.declared.rsp.RssiInstRsp.{RssiInstRsp}
-use Rattle.cmd_common.specs.declared.rsp.RssiInstRead.{RssiInstRead}
-use Rattle.cmd_common.specs.declared.rsp.RssiInstRead.TheVariants as rssiInst
 use Rattle.cmd_common.specs.declared.rsp.TimestampValueRsp.{TimestampValueRsp}
-use Rattle.cmd_common.specs.declared.rsp.TimestampValueRead.{TimestampValueRead}
-use Rattle.cmd_common.specs.declared.rsp.TimestampValueRead.TheVariants as timestampValue
 use Rattle.cmd_common.specs.declared.rsp.CcaResultRsp.{CcaResultRsp}
-use Rattle.cmd_common.specs.declared.rsp.CcaResultRead.{CcaResultRead}
-use Rattle.cmd_common.specs.declared.rsp.CcaResultRead.TheVariants as ccaResult
 
 -- four bytes
 unfoldable pub rssi_inst_rsp : List ℕ → RssiInstRsp
@@ -22,8 +17,8 @@ rssi_inst_rsp b =
       rssi = record { 0 = half b 2 3 0 };
     }
 
-abbrev pub rssi_inst_read : List ℕ → RssiInstRead
-rssi_inst_read b = cond (eqb (length b) 4) (rssiInst.Rsp (rssi_inst_rsp b)) (rssiInst.Refused ResponseLength)
+abbrev pub rssi_inst_read : List ℕ → Result RssiInstRsp Refusal
+rssi_inst_read b = cond (eqb (length b) 4) (Ok (rssi_inst_rsp b)) (Err ResponseLength)
 
 -- six bytes
 unfoldable pub timestamp_value_rsp : List ℕ → TimestampValueRsp
@@ -33,8 +28,8 @@ timestamp_value_rsp b =
       timestamp = wide b 2 5;
     }
 
-abbrev pub timestamp_value_read : List ℕ → TimestampValueRead
-timestamp_value_read b = cond (eqb (length b) 6) (timestampValue.Rsp (timestamp_value_rsp b)) (timestampValue.Refused ResponseLength)
+abbrev pub timestamp_value_read : List ℕ → Result TimestampValueRsp Refusal
+timestamp_value_read b = cond (eqb (length b) 6) (Ok (timestamp_value_rsp b)) (Err ResponseLength)
 
 -- six bytes; the last bits of the three levels are in byte 5
 unfoldable pub cca_result_rsp : List ℕ → CcaResultRsp
@@ -46,5 +41,5 @@ cca_result_rsp b =
       rssi_avg = record { 0 = half b 4 5 0 };
     }
 
-abbrev pub cca_result_read : List ℕ → CcaResultRead
-cca_result_read b = cond (eqb (length b) 6) (ccaResult.Rsp (cca_result_rsp b)) (ccaResult.Refused ResponseLength)
+abbrev pub cca_result_read : List ℕ → Result CcaResultRsp Refusal
+cca_result_read b = cond (eqb (length b) 6) (Ok (cca_result_rsp b)) (Err ResponseLength)

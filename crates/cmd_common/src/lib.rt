@@ -10,181 +10,141 @@ use table::{OPCODE, fields, put_plain, yes_no};
 
 pub mod rsp;
 
-pub use rsp::{
-    CcaResultRead, CcaResultRsp, RssiInstRead, RssiInstRsp, TimestampValueRead, TimestampValueRsp,
-};
+pub use rsp::{CcaResultRsp, RssiInstRsp, TimestampValueRsp};
 
 // The units of the arguments are those that the Rust states; where it states none, none is given (REFERENCE, "Commands").
 
 // Receive path: low or high frequency.
-#[derive(Clone, Copy)]
+#[derive(Clone, Copy, PartialEq, Eq, Debug)]
 pub enum RxPath {
-    LfPath,
-    HfPath,
+    LfPath = 0,
+    HfPath = 1,
 }
 
 impl RxPath {
     pub fn code(self) -> u64
         ensures { result ≡ rx_path_code self }
     {
-        match self {
-            RxPath::LfPath => 0,
-            RxPath::HfPath => 1,
-        }
+        self as u64
     }
 }
 
 // Receive boost, off to full; a command that brings none leaves it as it was.
-#[derive(Clone, Copy)]
+#[derive(Clone, Copy, PartialEq, Eq, Debug)]
 pub enum RxBoost {
-    Off,
-    B1,
-    B2,
-    B3,
-    B4,
-    B5,
-    B6,
-    Max,
+    Off = 0,
+    B1 = 1,
+    B2 = 2,
+    B3 = 3,
+    B4 = 4,
+    B5 = 5,
+    B6 = 6,
+    Max = 7,
 }
 
 impl RxBoost {
     pub fn code(self) -> u64
         ensures { result ≡ rx_boost_code self }
     {
-        match self {
-            RxBoost::Off => 0,
-            RxBoost::B1 => 1,
-            RxBoost::B2 => 2,
-            RxBoost::B3 => 3,
-            RxBoost::B4 => 4,
-            RxBoost::B5 => 5,
-            RxBoost::B6 => 6,
-            RxBoost::Max => 7,
-        }
+        self as u64
     }
 }
 
 // Power amplifier: low or high frequency.
-#[derive(Clone, Copy)]
+#[derive(Clone, Copy, PartialEq, Eq, Debug)]
 pub enum PaSel {
-    LfPa,
-    HfPa,
+    LfPa = 0,
+    HfPa = 1,
 }
 
 impl PaSel {
     pub fn code(self) -> u64
         ensures { result ≡ pa_sel_code self }
     {
-        match self {
-            PaSel::LfPa => 0,
-            PaSel::HfPa => 1,
-        }
+        self as u64
     }
 }
 
 // Mode of the low frequency amplifier; the first where it is not used.
-#[derive(Clone, Copy)]
+#[derive(Clone, Copy, PartialEq, Eq, Debug)]
 pub enum PaLfMode {
-    LfPaFsm,
-    LfPaFdm,
-    LfPaHsmRfo1,
-    LfPaHsmRfo2,
+    LfPaFsm = 0,
+    LfPaFdm = 1,
+    LfPaHsmRfo1 = 2,
+    LfPaHsmRfo2 = 3,
 }
 
 impl PaLfMode {
     pub fn code(self) -> u64
         ensures { result ≡ pa_lf_mode_code self }
     {
-        match self {
-            PaLfMode::LfPaFsm => 0,
-            PaLfMode::LfPaFdm => 1,
-            PaLfMode::LfPaHsmRfo1 => 2,
-            PaLfMode::LfPaHsmRfo2 => 3,
-        }
+        self as u64
     }
 }
 
 // When the radio turns around by itself.
-#[derive(Clone, Copy)]
+#[derive(Clone, Copy, PartialEq, Eq, Debug)]
 pub enum AutoTxrxMode {
-    Disable,
-    Always,
-    RxOk,
+    Disable = 0,
+    Always = 1,
+    RxOk = 2,
 }
 
 impl AutoTxrxMode {
     pub fn code(self) -> u64
         ensures { result ≡ auto_txrx_mode_code self }
     {
-        match self {
-            AutoTxrxMode::Disable => 0,
-            AutoTxrxMode::Always => 1,
-            AutoTxrxMode::RxOk => 2,
-        }
+        self as u64
     }
 }
 
 // One of the three timestamps.
-#[derive(Clone, Copy)]
+#[derive(Clone, Copy, PartialEq, Eq, Debug)]
 pub enum TimestampIndex {
-    Ts0,
-    Ts1,
-    Ts2,
+    Ts0 = 0,
+    Ts1 = 1,
+    Ts2 = 2,
 }
 
 impl TimestampIndex {
     pub fn code(self) -> u64
         ensures { result ≡ timestamp_index_code self }
     {
-        match self {
-            TimestampIndex::Ts0 => 0,
-            TimestampIndex::Ts1 => 1,
-            TimestampIndex::Ts2 => 2,
-        }
+        self as u64
     }
 }
 
 // The event that a timestamp marks.
-#[derive(Clone, Copy)]
+#[derive(Clone, Copy, PartialEq, Eq, Debug)]
 pub enum TimestampSource {
-    None,
-    TxDone,
-    RxDone,
-    Sync,
-    Header,
+    None = 0,
+    TxDone = 1,
+    RxDone = 2,
+    Sync = 3,
+    Header = 4,
 }
 
 impl TimestampSource {
     pub fn code(self) -> u64
         ensures { result ≡ timestamp_source_code self }
     {
-        match self {
-            TimestampSource::None => 0,
-            TimestampSource::TxDone => 1,
-            TimestampSource::RxDone => 2,
-            TimestampSource::Sync => 3,
-            TimestampSource::Header => 4,
-        }
+        self as u64
     }
 }
 
 // What follows a channel activity detection of the other modems. The Rust's `cmd_common::ExitMode`.
-#[derive(Clone, Copy)]
+#[derive(Clone, Copy, PartialEq, Eq, Debug)]
 pub enum CadExitMode {
-    Fallback,
-    Tx,
-    Rx,
+    Fallback = 0,
+    Tx = 1,
+    Rx = 2,
 }
 
 impl CadExitMode {
     pub fn code(self) -> u64
         ensures { result ≡ cad_exit_mode_code self }
     {
-        match self {
-            CadExitMode::Fallback => 0,
-            CadExitMode::Tx => 1,
-            CadExitMode::Rx => 2,
-        }
+        self as u64
     }
 }
 

@@ -14,38 +14,25 @@ pub struct RssiInstRsp {
     pub rssi: HalfDbm,
 }
 
-// What bytes give: the response, or a refusal where they are not 4.
-#[derive(Clone, Copy)]
-pub enum RssiInstRead {
-    Rsp(RssiInstRsp),
-    Refused(Refusal),
-}
-
 impl RssiInstRsp {
-    // The fields; the two readers below see to the length.
-    fn read(bytes: &[u8]) -> RssiInstRsp
-        ensures { result ≡ rssi_inst_rsp bytes.now }
-    {
-        RssiInstRsp {
-            status: Status::from_slice(bytes),
-            rssi: HalfDbm(half(byte_at(bytes, 2), byte_at(bytes, 3) % 2)),
-        }
-    }
-
+    #[tactic(auto, unfolding(crate::specs::Responses::rssi_inst_rsp))]
     pub fn from_array(bytes: [u8; 4]) -> RssiInstRsp
         ensures { result ≡ rssi_inst_rsp bytes }
     {
-        RssiInstRsp::read(&bytes)
+        RssiInstRsp {
+            status: Status::from_slice(&bytes),
+            rssi: HalfDbm(half(byte_at(&bytes, 2), byte_at(&bytes, 3) % 2)),
+        }
     }
 
-    pub fn from_slice(bytes: &[u8]) -> RssiInstRead
+    // Bytes of another length are no such response.
+    pub fn from_slice(bytes: &[u8]) -> Result<RssiInstRsp, Refusal>
         ensures { result ≡ rssi_inst_read bytes.now }
     {
-        if bytes.len() == 4 {
-            RssiInstRead::Rsp(RssiInstRsp::read(bytes))
-        } else {
-            RssiInstRead::Refused(Refusal::ResponseLength)
-        }
+        let Ok(array) = <[u8; 4]>::try_from(bytes) else {
+            return Err(Refusal::ResponseLength);
+        };
+        Ok(RssiInstRsp::from_array(array))
     }
 }
 
@@ -56,43 +43,30 @@ pub struct TimestampValueRsp {
     pub timestamp: u32,
 }
 
-// What bytes give: the response, or a refusal where they are not 6.
-#[derive(Clone, Copy)]
-pub enum TimestampValueRead {
-    Rsp(TimestampValueRsp),
-    Refused(Refusal),
-}
-
 impl TimestampValueRsp {
-    // The fields; the two readers below see to the length.
-    fn read(bytes: &[u8]) -> TimestampValueRsp
-        ensures { result ≡ timestamp_value_rsp bytes.now }
+    #[tactic(auto, unfolding(crate::specs::Responses::timestamp_value_rsp))]
+    pub fn from_array(bytes: [u8; 6]) -> TimestampValueRsp
+        ensures { result ≡ timestamp_value_rsp bytes }
     {
         TimestampValueRsp {
-            status: Status::from_slice(bytes),
+            status: Status::from_slice(&bytes),
             timestamp: u32_of(
-                byte_at(bytes, 2),
-                byte_at(bytes, 3),
-                byte_at(bytes, 4),
-                byte_at(bytes, 5),
+                byte_at(&bytes, 2),
+                byte_at(&bytes, 3),
+                byte_at(&bytes, 4),
+                byte_at(&bytes, 5),
             ),
         }
     }
 
-    pub fn from_array(bytes: [u8; 6]) -> TimestampValueRsp
-        ensures { result ≡ timestamp_value_rsp bytes }
-    {
-        TimestampValueRsp::read(&bytes)
-    }
-
-    pub fn from_slice(bytes: &[u8]) -> TimestampValueRead
+    // Bytes of another length are no such response.
+    pub fn from_slice(bytes: &[u8]) -> Result<TimestampValueRsp, Refusal>
         ensures { result ≡ timestamp_value_read bytes.now }
     {
-        if bytes.len() == 6 {
-            TimestampValueRead::Rsp(TimestampValueRsp::read(bytes))
-        } else {
-            TimestampValueRead::Refused(Refusal::ResponseLength)
-        }
+        let Ok(array) = <[u8; 6]>::try_from(bytes) else {
+            return Err(Refusal::ResponseLength);
+        };
+        Ok(TimestampValueRsp::from_array(array))
     }
 }
 
@@ -105,39 +79,26 @@ pub struct CcaResultRsp {
     pub rssi_avg: HalfDbm,
 }
 
-// What bytes give: the response, or a refusal where they are not 6.
-#[derive(Clone, Copy)]
-pub enum CcaResultRead {
-    Rsp(CcaResultRsp),
-    Refused(Refusal),
-}
-
 impl CcaResultRsp {
-    // The fields; the two readers below see to the length.
-    fn read(bytes: &[u8]) -> CcaResultRsp
-        ensures { result ≡ cca_result_rsp bytes.now }
-    {
-        CcaResultRsp {
-            status: Status::from_slice(bytes),
-            rssi_min: HalfDbm(half(byte_at(bytes, 2), byte_at(bytes, 5) / 4 % 2)),
-            rssi_max: HalfDbm(half(byte_at(bytes, 3), byte_at(bytes, 5) / 2 % 2)),
-            rssi_avg: HalfDbm(half(byte_at(bytes, 4), byte_at(bytes, 5) % 2)),
-        }
-    }
-
+    #[tactic(auto, unfolding(crate::specs::Responses::cca_result_rsp))]
     pub fn from_array(bytes: [u8; 6]) -> CcaResultRsp
         ensures { result ≡ cca_result_rsp bytes }
     {
-        CcaResultRsp::read(&bytes)
+        CcaResultRsp {
+            status: Status::from_slice(&bytes),
+            rssi_min: HalfDbm(half(byte_at(&bytes, 2), byte_at(&bytes, 5) / 4 % 2)),
+            rssi_max: HalfDbm(half(byte_at(&bytes, 3), byte_at(&bytes, 5) / 2 % 2)),
+            rssi_avg: HalfDbm(half(byte_at(&bytes, 4), byte_at(&bytes, 5) % 2)),
+        }
     }
 
-    pub fn from_slice(bytes: &[u8]) -> CcaResultRead
+    // Bytes of another length are no such response.
+    pub fn from_slice(bytes: &[u8]) -> Result<CcaResultRsp, Refusal>
         ensures { result ≡ cca_result_read bytes.now }
     {
-        if bytes.len() == 6 {
-            CcaResultRead::Rsp(CcaResultRsp::read(bytes))
-        } else {
-            CcaResultRead::Refused(Refusal::ResponseLength)
-        }
+        let Ok(array) = <[u8; 6]>::try_from(bytes) else {
+            return Err(Refusal::ResponseLength);
+        };
+        Ok(CcaResultRsp::from_array(array))
     }
 }

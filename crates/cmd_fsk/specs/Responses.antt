@@ -1,15 +1,12 @@
 -- The responses to the FSK commands: where each field stands behind the status (REFERENCE, "Responses"). Another length is refused.
 -- Assumes nothing.
-use Rattle.std.specs.Prelude.{ℕ, cond, List, eqb, length}
+use Rattle.std.specs.Prelude.{ℕ, cond, List, Result, Ok, Err, eqb, length}
 use Rattle.status.specs.Notation.{byte, wide, bit, half}
 use Rattle.status.specs.Words.{status_of}
+use Rattle.refusal.specs.declared.Refusal.{Refusal}
 use Rattle.refusal.specs.declared.Refusal.TheVariants.{ResponseLength}
 use Rattle.cmd_fsk.specs.declared.rsp.FskRxStatsRsp.{FskRxStatsRsp}
-use Rattle.cmd_fsk.specs.declared.rsp.FskRxStatsRead.{FskRxStatsRead}
-use Rattle.cmd_fsk.specs.declared.rsp.FskRxStatsRead.TheVariants as fsk_rx_stats
 use Rattle.cmd_fsk.specs.declared.rsp.FskPacketStatusRsp.{FskPacketStatusRsp}
-use Rattle.cmd_fsk.specs.declared.rsp.FskPacketStatusRead.{FskPacketStatusRead}
-use Rattle.cmd_fsk.specs.declared.rsp.FskPacketStatusRead.TheVariants as fsk_packet_status
 
 -- sixteen bytes: seven counts of 16 bits
 unfoldable pub fsk_rx_stats_rsp : List ℕ → FskRxStatsRsp
@@ -25,8 +22,8 @@ fsk_rx_stats_rsp b =
       timeout = wide b 14 15;
     }
 
-abbrev pub fsk_rx_stats_read : List ℕ → FskRxStatsRead
-fsk_rx_stats_read b = cond (eqb (length b) 16) (fsk_rx_stats.Rsp (fsk_rx_stats_rsp b)) (fsk_rx_stats.Refused ResponseLength)
+abbrev pub fsk_rx_stats_read : List ℕ → Result FskRxStatsRsp Refusal
+fsk_rx_stats_read b = cond (eqb (length b) 16) (Ok (fsk_rx_stats_rsp b)) (Err ResponseLength)
 
 -- eight bytes; the last bits of both levels are in byte 6, beside the matches
 unfoldable pub fsk_packet_status_rsp : List ℕ → FskPacketStatusRsp
@@ -41,5 +38,5 @@ fsk_packet_status_rsp b =
       lqi = byte b 7;
     }
 
-abbrev pub fsk_packet_status_read : List ℕ → FskPacketStatusRead
-fsk_packet_status_read b = cond (eqb (length b) 8) (fsk_packet_status.Rsp (fsk_packet_status_rsp b)) (fsk_packet_status.Refused ResponseLength)
+abbrev pub fsk_packet_status_read : List ℕ → Result FskPacketStatusRsp Refusal
+fsk_packet_status_read b = cond (eqb (length b) 8) (Ok (fsk_packet_status_rsp b)) (Err ResponseLength)

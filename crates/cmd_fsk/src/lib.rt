@@ -10,399 +10,256 @@ use table::{OPCODE, fields, put_plain, yes_no};
 
 pub mod rsp;
 
-pub use rsp::{FskPacketStatusRead, FskPacketStatusRsp, FskRxStatsRead, FskRxStatsRsp};
+pub use rsp::{FskPacketStatusRsp, FskRxStatsRsp};
 
 // Pulse shaping filter: Gaussian (Bt), raised cosine (Rc), root raised cosine (Rrc).
-#[derive(Clone, Copy)]
+#[derive(Clone, Copy, PartialEq, Eq, Debug)]
 pub enum PulseShape {
-    None,
-    Custom,
-    Bt0p3,
-    Bt0p5,
-    Bt0p7,
-    Bt1p0,
-    Bt2p0,
-    Rc0p3,
-    Rc0p5,
-    Rc0p7,
-    Rc1p0,
-    Rrc0p3,
-    Rrc0p4,
-    Rrc0p5,
-    Rrc0p7,
-    Rrc1p0,
+    None = 0,
+    Custom = 1,
+    Bt0p3 = 4,
+    Bt0p5 = 5,
+    Bt0p7 = 6,
+    Bt1p0 = 7,
+    Bt2p0 = 2,
+    Rc0p3 = 8,
+    Rc0p5 = 9,
+    Rc0p7 = 10,
+    Rc1p0 = 11,
+    Rrc0p3 = 12,
+    Rrc0p4 = 3,
+    Rrc0p5 = 13,
+    Rrc0p7 = 14,
+    Rrc1p0 = 15,
 }
 
 impl PulseShape {
     pub fn code(self) -> u64
         ensures { result ≡ pulse_shape_code self }
     {
-        match self {
-            PulseShape::None => 0,
-            PulseShape::Custom => 1,
-            PulseShape::Bt0p3 => 4,
-            PulseShape::Bt0p5 => 5,
-            PulseShape::Bt0p7 => 6,
-            PulseShape::Bt1p0 => 7,
-            PulseShape::Bt2p0 => 2,
-            PulseShape::Rc0p3 => 8,
-            PulseShape::Rc0p5 => 9,
-            PulseShape::Rc0p7 => 10,
-            PulseShape::Rc1p0 => 11,
-            PulseShape::Rrc0p3 => 12,
-            PulseShape::Rrc0p4 => 3,
-            PulseShape::Rrc0p5 => 13,
-            PulseShape::Rrc0p7 => 14,
-            PulseShape::Rrc1p0 => 15,
-        }
+        self as u64
     }
 }
 
 // Receive filter bandwidth in kHz; crate rx_bw has the names and widths by code.
-#[derive(Clone, Copy)]
+#[derive(Clone, Copy, PartialEq, Eq, Debug)]
 pub enum RxBw {
-    BwAuto,
-    Bw3076,
-    Bw2857,
-    Bw2666,
-    Bw2222,
-    Bw1333,
-    Bw1111,
-    Bw888,
-    Bw769,
-    Bw740,
-    Bw714,
-    Bw666,
-    Bw615,
-    Bw571,
-    Bw555,
-    Bw533,
-    Bw512,
-    Bw476,
-    Bw444,
-    Bw384,
-    Bw370,
-    Bw357,
-    Bw333,
-    Bw307,
-    Bw285,
-    Bw277,
-    Bw266,
-    Bw256,
-    Bw238,
-    Bw222,
-    Bw192,
-    Bw185,
-    Bw178,
-    Bw166,
-    Bw153,
-    Bw142,
-    Bw138,
-    Bw133,
-    Bw128,
-    Bw119,
-    Bw111,
-    Bw96,
-    Bw92,
-    Bw89,
-    Bw83,
-    Bw76,
-    Bw71,
-    Bw69,
-    Bw66,
-    Bw64,
-    Bw59,
-    Bw55,
-    Bw48,
-    Bw46,
-    Bw44,
-    Bw41,
-    Bw38,
-    Bw35,
-    Bw34,
-    Bw33,
-    Bw32,
-    Bw29,
-    Bw27,
-    Bw24,
-    Bw23,
-    Bw22,
-    Bw20,
-    Bw19,
-    Bw17,
-    Bw16,
-    Bw14,
-    Bw13,
-    Bw12,
-    Bw11,
-    Bw10,
-    Bw9p6,
-    Bw8p9,
-    Bw8p7,
-    Bw8p3,
-    Bw8,
-    Bw7p4,
-    Bw6p9,
-    Bw6,
-    Bw5p8,
-    Bw5p6,
-    Bw5p2,
-    Bw4p8,
-    Bw4p5,
-    Bw4p3,
-    Bw4p2,
-    Bw3p5,
+    BwAuto = 255,
+    Bw3076 = 0,
+    Bw2857 = 64,
+    Bw2666 = 128,
+    Bw2222 = 192,
+    Bw1333 = 136,
+    Bw1111 = 200,
+    Bw888 = 144,
+    Bw769 = 24,
+    Bw740 = 208,
+    Bw714 = 88,
+    Bw666 = 152,
+    Bw615 = 32,
+    Bw571 = 96,
+    Bw555 = 216,
+    Bw533 = 160,
+    Bw512 = 17,
+    Bw476 = 81,
+    Bw444 = 224,
+    Bw384 = 25,
+    Bw370 = 209,
+    Bw357 = 89,
+    Bw333 = 153,
+    Bw307 = 33,
+    Bw285 = 97,
+    Bw277 = 217,
+    Bw266 = 161,
+    Bw256 = 18,
+    Bw238 = 82,
+    Bw222 = 225,
+    Bw192 = 26,
+    Bw185 = 210,
+    Bw178 = 90,
+    Bw166 = 154,
+    Bw153 = 34,
+    Bw142 = 98,
+    Bw138 = 218,
+    Bw133 = 162,
+    Bw128 = 19,
+    Bw119 = 83,
+    Bw111 = 226,
+    Bw96 = 27,
+    Bw92 = 211,
+    Bw89 = 91,
+    Bw83 = 155,
+    Bw76 = 35,
+    Bw71 = 99,
+    Bw69 = 219,
+    Bw66 = 163,
+    Bw64 = 20,
+    Bw59 = 84,
+    Bw55 = 227,
+    Bw48 = 28,
+    Bw46 = 212,
+    Bw44 = 92,
+    Bw41 = 156,
+    Bw38 = 36,
+    Bw35 = 100,
+    Bw34 = 220,
+    Bw33 = 164,
+    Bw32 = 21,
+    Bw29 = 85,
+    Bw27 = 228,
+    Bw24 = 29,
+    Bw23 = 213,
+    Bw22 = 93,
+    Bw20 = 157,
+    Bw19 = 37,
+    Bw17 = 101,
+    Bw16 = 165,
+    Bw14 = 86,
+    Bw13 = 229,
+    Bw12 = 30,
+    Bw11 = 94,
+    Bw10 = 158,
+    Bw9p6 = 38,
+    Bw8p9 = 102,
+    Bw8p7 = 222,
+    Bw8p3 = 166,
+    Bw8 = 23,
+    Bw7p4 = 87,
+    Bw6p9 = 230,
+    Bw6 = 31,
+    Bw5p8 = 215,
+    Bw5p6 = 95,
+    Bw5p2 = 159,
+    Bw4p8 = 39,
+    Bw4p5 = 103,
+    Bw4p3 = 223,
+    Bw4p2 = 167,
+    Bw3p5 = 231,
 }
 
 impl RxBw {
     pub fn code(self) -> u64
         ensures { result ≡ rx_bw_code self }
     {
-        match self {
-            RxBw::BwAuto => 255,
-            RxBw::Bw3076 => 0,
-            RxBw::Bw2857 => 64,
-            RxBw::Bw2666 => 128,
-            RxBw::Bw2222 => 192,
-            RxBw::Bw1333 => 136,
-            RxBw::Bw1111 => 200,
-            RxBw::Bw888 => 144,
-            RxBw::Bw769 => 24,
-            RxBw::Bw740 => 208,
-            RxBw::Bw714 => 88,
-            RxBw::Bw666 => 152,
-            RxBw::Bw615 => 32,
-            RxBw::Bw571 => 96,
-            RxBw::Bw555 => 216,
-            RxBw::Bw533 => 160,
-            RxBw::Bw512 => 17,
-            RxBw::Bw476 => 81,
-            RxBw::Bw444 => 224,
-            RxBw::Bw384 => 25,
-            RxBw::Bw370 => 209,
-            RxBw::Bw357 => 89,
-            RxBw::Bw333 => 153,
-            RxBw::Bw307 => 33,
-            RxBw::Bw285 => 97,
-            RxBw::Bw277 => 217,
-            RxBw::Bw266 => 161,
-            RxBw::Bw256 => 18,
-            RxBw::Bw238 => 82,
-            RxBw::Bw222 => 225,
-            RxBw::Bw192 => 26,
-            RxBw::Bw185 => 210,
-            RxBw::Bw178 => 90,
-            RxBw::Bw166 => 154,
-            RxBw::Bw153 => 34,
-            RxBw::Bw142 => 98,
-            RxBw::Bw138 => 218,
-            RxBw::Bw133 => 162,
-            RxBw::Bw128 => 19,
-            RxBw::Bw119 => 83,
-            RxBw::Bw111 => 226,
-            RxBw::Bw96 => 27,
-            RxBw::Bw92 => 211,
-            RxBw::Bw89 => 91,
-            RxBw::Bw83 => 155,
-            RxBw::Bw76 => 35,
-            RxBw::Bw71 => 99,
-            RxBw::Bw69 => 219,
-            RxBw::Bw66 => 163,
-            RxBw::Bw64 => 20,
-            RxBw::Bw59 => 84,
-            RxBw::Bw55 => 227,
-            RxBw::Bw48 => 28,
-            RxBw::Bw46 => 212,
-            RxBw::Bw44 => 92,
-            RxBw::Bw41 => 156,
-            RxBw::Bw38 => 36,
-            RxBw::Bw35 => 100,
-            RxBw::Bw34 => 220,
-            RxBw::Bw33 => 164,
-            RxBw::Bw32 => 21,
-            RxBw::Bw29 => 85,
-            RxBw::Bw27 => 228,
-            RxBw::Bw24 => 29,
-            RxBw::Bw23 => 213,
-            RxBw::Bw22 => 93,
-            RxBw::Bw20 => 157,
-            RxBw::Bw19 => 37,
-            RxBw::Bw17 => 101,
-            RxBw::Bw16 => 165,
-            RxBw::Bw14 => 86,
-            RxBw::Bw13 => 229,
-            RxBw::Bw12 => 30,
-            RxBw::Bw11 => 94,
-            RxBw::Bw10 => 158,
-            RxBw::Bw9p6 => 38,
-            RxBw::Bw8p9 => 102,
-            RxBw::Bw8p7 => 222,
-            RxBw::Bw8p3 => 166,
-            RxBw::Bw8 => 23,
-            RxBw::Bw7p4 => 87,
-            RxBw::Bw6p9 => 230,
-            RxBw::Bw6 => 31,
-            RxBw::Bw5p8 => 215,
-            RxBw::Bw5p6 => 95,
-            RxBw::Bw5p2 => 159,
-            RxBw::Bw4p8 => 39,
-            RxBw::Bw4p5 => 103,
-            RxBw::Bw4p3 => 223,
-            RxBw::Bw4p2 => 167,
-            RxBw::Bw3p5 => 231,
-        }
+        self as u64
     }
 }
 
 // How many preamble bits are searched for.
-#[derive(Clone, Copy)]
+#[derive(Clone, Copy, PartialEq, Eq, Debug)]
 pub enum PblLenDetect {
-    None,
-    Len8Bits,
-    Len16Bits,
-    Len24Bits,
-    Len32Bits,
+    None = 0,
+    Len8Bits = 8,
+    Len16Bits = 16,
+    Len24Bits = 24,
+    Len32Bits = 32,
 }
 
 impl PblLenDetect {
     pub fn code(self) -> u64
         ensures { result ≡ pbl_len_detect_code self }
     {
-        match self {
-            PblLenDetect::None => 0,
-            PblLenDetect::Len8Bits => 8,
-            PblLenDetect::Len16Bits => 16,
-            PblLenDetect::Len24Bits => 24,
-            PblLenDetect::Len32Bits => 32,
-        }
+        self as u64
     }
 }
 
 // What a payload length counts.
-#[derive(Clone, Copy)]
+#[derive(Clone, Copy, PartialEq, Eq, Debug)]
 pub enum PldLenUnit {
-    Bytes,
-    Bits,
+    Bytes = 0,
+    Bits = 1,
 }
 
 impl PldLenUnit {
     pub fn code(self) -> u64
         ensures { result ≡ pld_len_unit_code self }
     {
-        match self {
-            PldLenUnit::Bytes => 0,
-            PldLenUnit::Bits => 1,
-        }
+        self as u64
     }
 }
 
 // Which addresses the filter compares.
-#[derive(Clone, Copy)]
+#[derive(Clone, Copy, PartialEq, Eq, Debug)]
 pub enum AddrComp {
-    Off,
-    Node,
-    NodeBcast,
+    Off = 0,
+    Node = 1,
+    NodeBcast = 2,
 }
 
 impl AddrComp {
     pub fn code(self) -> u64
         ensures { result ≡ addr_comp_code self }
     {
-        match self {
-            AddrComp::Off => 0,
-            AddrComp::Node => 1,
-            AddrComp::NodeBcast => 2,
-        }
+        self as u64
     }
 }
 
 // Fixed length, or a length field of 8, 9 or 16 bits.
-#[derive(Clone, Copy)]
+#[derive(Clone, Copy, PartialEq, Eq, Debug)]
 pub enum FskPktFormat {
-    FixedLength,
-    Variable8bit,
-    Variable9bit,
-    Variable16bit,
+    FixedLength = 0,
+    Variable8bit = 1,
+    Variable9bit = 2,
+    Variable16bit = 3,
 }
 
 impl FskPktFormat {
     pub fn code(self) -> u64
         ensures { result ≡ fsk_pkt_format_code self }
     {
-        match self {
-            FskPktFormat::FixedLength => 0,
-            FskPktFormat::Variable8bit => 1,
-            FskPktFormat::Variable9bit => 2,
-            FskPktFormat::Variable16bit => 3,
-        }
+        self as u64
     }
 }
 
 // CRC length, plain or inverted.
-#[derive(Clone, Copy)]
+#[derive(Clone, Copy, PartialEq, Eq, Debug)]
 pub enum Crc {
-    CrcOff,
-    Crc1Byte,
-    Crc2Byte,
-    Crc3Byte,
-    Crc4Byte,
-    Crc1ByteInv,
-    Crc2ByteInv,
-    Crc3ByteInv,
-    Crc4ByteInv,
+    CrcOff = 0,
+    Crc1Byte = 1,
+    Crc2Byte = 2,
+    Crc3Byte = 3,
+    Crc4Byte = 4,
+    Crc1ByteInv = 9,
+    Crc2ByteInv = 10,
+    Crc3ByteInv = 11,
+    Crc4ByteInv = 12,
 }
 
 impl Crc {
     pub fn code(self) -> u64
         ensures { result ≡ crc_code self }
     {
-        match self {
-            Crc::CrcOff => 0,
-            Crc::Crc1Byte => 1,
-            Crc::Crc2Byte => 2,
-            Crc::Crc3Byte => 3,
-            Crc::Crc4Byte => 4,
-            Crc::Crc1ByteInv => 9,
-            Crc::Crc2ByteInv => 10,
-            Crc::Crc3ByteInv => 11,
-            Crc::Crc4ByteInv => 12,
-        }
+        self as u64
     }
 }
 
 // Which older chips the whitening agrees with.
-#[derive(Clone, Copy)]
+#[derive(Clone, Copy, PartialEq, Eq, Debug)]
 pub enum WhitenType {
-    Sx126xLr11xx,
-    Sx128x,
+    Sx126xLr11xx = 0,
+    Sx128x = 1,
 }
 
 impl WhitenType {
     pub fn code(self) -> u64
         ensures { result ≡ whiten_type_code self }
     {
-        match self {
-            WhitenType::Sx126xLr11xx => 0,
-            WhitenType::Sx128x => 1,
-        }
+        self as u64
     }
 }
 
 // Which bit of the syncword goes first.
-#[derive(Clone, Copy)]
+#[derive(Clone, Copy, PartialEq, Eq, Debug)]
 pub enum BitOrder {
-    LsbFirst,
-    MsbFirst,
+    LsbFirst = 0,
+    MsbFirst = 1,
 }
 
 impl BitOrder {
     pub fn code(self) -> u64
         ensures { result ≡ bit_order_code self }
     {
-        match self {
-            BitOrder::LsbFirst => 0,
-            BitOrder::MsbFirst => 1,
-        }
+        self as u64
     }
 }
 

@@ -20,44 +20,31 @@ pub struct FskRxStatsRsp {
     pub timeout: u16,
 }
 
-// What bytes give: the response, or a refusal where they are not 16.
-#[derive(Clone, Copy)]
-pub enum FskRxStatsRead {
-    Rsp(FskRxStatsRsp),
-    Refused(Refusal),
-}
-
 impl FskRxStatsRsp {
-    // The fields; the two readers below see to the length.
-    fn read(bytes: &[u8]) -> FskRxStatsRsp
-        ensures { result ≡ fsk_rx_stats_rsp bytes.now }
-    {
-        FskRxStatsRsp {
-            status: Status::from_slice(bytes),
-            pkt_rx: word_at(bytes, 2),
-            crc_error: word_at(bytes, 4),
-            len_error: word_at(bytes, 6),
-            pbl_det: word_at(bytes, 8),
-            sync_ok: word_at(bytes, 10),
-            sync_fail: word_at(bytes, 12),
-            timeout: word_at(bytes, 14),
-        }
-    }
-
+    #[tactic(auto, unfolding(crate::specs::Responses::fsk_rx_stats_rsp))]
     pub fn from_array(bytes: [u8; 16]) -> FskRxStatsRsp
         ensures { result ≡ fsk_rx_stats_rsp bytes }
     {
-        FskRxStatsRsp::read(&bytes)
+        FskRxStatsRsp {
+            status: Status::from_slice(&bytes),
+            pkt_rx: word_at(&bytes, 2),
+            crc_error: word_at(&bytes, 4),
+            len_error: word_at(&bytes, 6),
+            pbl_det: word_at(&bytes, 8),
+            sync_ok: word_at(&bytes, 10),
+            sync_fail: word_at(&bytes, 12),
+            timeout: word_at(&bytes, 14),
+        }
     }
 
-    pub fn from_slice(bytes: &[u8]) -> FskRxStatsRead
+    // Bytes of another length are no such response.
+    pub fn from_slice(bytes: &[u8]) -> Result<FskRxStatsRsp, Refusal>
         ensures { result ≡ fsk_rx_stats_read bytes.now }
     {
-        if bytes.len() == 16 {
-            FskRxStatsRead::Rsp(FskRxStatsRsp::read(bytes))
-        } else {
-            FskRxStatsRead::Refused(Refusal::ResponseLength)
-        }
+        let Ok(array) = <[u8; 16]>::try_from(bytes) else {
+            return Err(Refusal::ResponseLength);
+        };
+        Ok(FskRxStatsRsp::from_array(array))
     }
 }
 
@@ -74,42 +61,29 @@ pub struct FskPacketStatusRsp {
     pub lqi: u8,
 }
 
-// What bytes give: the response, or a refusal where they are not 8.
-#[derive(Clone, Copy)]
-pub enum FskPacketStatusRead {
-    Rsp(FskPacketStatusRsp),
-    Refused(Refusal),
-}
-
 impl FskPacketStatusRsp {
-    // The fields; the two readers below see to the length.
-    fn read(bytes: &[u8]) -> FskPacketStatusRsp
-        ensures { result ≡ fsk_packet_status_rsp bytes.now }
-    {
-        FskPacketStatusRsp {
-            status: Status::from_slice(bytes),
-            pkt_len: word_at(bytes, 2),
-            rssi_avg: HalfDbm(half(byte_at(bytes, 4), byte_at(bytes, 6) / 4 % 2)),
-            rssi_sync: HalfDbm(half(byte_at(bytes, 5), byte_at(bytes, 6) % 2)),
-            addr_match_bcast: byte_at(bytes, 6) & 0x20 != 0,
-            addr_match_node: byte_at(bytes, 6) & 0x10 != 0,
-            lqi: byte_at(bytes, 7),
-        }
-    }
-
+    #[tactic(auto, unfolding(crate::specs::Responses::fsk_packet_status_rsp))]
     pub fn from_array(bytes: [u8; 8]) -> FskPacketStatusRsp
         ensures { result ≡ fsk_packet_status_rsp bytes }
     {
-        FskPacketStatusRsp::read(&bytes)
+        FskPacketStatusRsp {
+            status: Status::from_slice(&bytes),
+            pkt_len: word_at(&bytes, 2),
+            rssi_avg: HalfDbm(half(byte_at(&bytes, 4), byte_at(&bytes, 6) / 4 % 2)),
+            rssi_sync: HalfDbm(half(byte_at(&bytes, 5), byte_at(&bytes, 6) % 2)),
+            addr_match_bcast: byte_at(&bytes, 6) & 0x20 != 0,
+            addr_match_node: byte_at(&bytes, 6) & 0x10 != 0,
+            lqi: byte_at(&bytes, 7),
+        }
     }
 
-    pub fn from_slice(bytes: &[u8]) -> FskPacketStatusRead
+    // Bytes of another length are no such response.
+    pub fn from_slice(bytes: &[u8]) -> Result<FskPacketStatusRsp, Refusal>
         ensures { result ≡ fsk_packet_status_read bytes.now }
     {
-        if bytes.len() == 8 {
-            FskPacketStatusRead::Rsp(FskPacketStatusRsp::read(bytes))
-        } else {
-            FskPacketStatusRead::Refused(Refusal::ResponseLength)
-        }
+        let Ok(array) = <[u8; 8]>::try_from(bytes) else {
+            return Err(Refusal::ResponseLength);
+        };
+        Ok(FskPacketStatusRsp::from_array(array))
     }
 }

@@ -1,3 +1,4 @@
+pub mod Order
 pub mod Outcome
 pub mod Widths
 pub mod ResponsesOutcome

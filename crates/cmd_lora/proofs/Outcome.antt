@@ -7,7 +7,7 @@ use Rattle.cmd_lora.specs.contracts as contracts
 sf-code-once : Once contracts.Sf.code.ended cmd_lora.Sf.code.Reads.Pre cmd_lora.Sf.code.Reads.Learnt
 sf-code-once κs a h o u p q i = (same p q i, o.1)
 
-sf-cmp-once : Once contracts.Sf.cmp.ended cmd_lora.Sf.cmp.Reads.Pre cmd_lora.Sf.cmp.Reads.Learnt
+sf-cmp-once : Once contracts.SfOrd.cmp.ended cmd_lora.SfOrd.cmp.Reads.Pre cmd_lora.SfOrd.cmp.Reads.Learnt
 sf-cmp-once κs a h o u p q i = (same p q i, o.1)
 
 lora-bw-code-once : Once contracts.LoraBw.code.ended cmd_lora.LoraBw.code.Reads.Pre cmd_lora.LoraBw.code.Reads.Learnt
@@ -19,7 +19,7 @@ lora-bw-to-hz-once κs a h o u p q i = (same p q i, o.1)
 lora-bw-is-fractional-once : Once contracts.LoraBw.is_fractional.ended cmd_lora.LoraBw.is_fractional.Reads.Pre cmd_lora.LoraBw.is_fractional.Reads.Learnt
 lora-bw-is-fractional-once κs a h o u p q i = (same p q i, o.1)
 
-lora-bw-cmp-once : Once contracts.LoraBw.cmp.ended cmd_lora.LoraBw.cmp.Reads.Pre cmd_lora.LoraBw.cmp.Reads.Learnt
+lora-bw-cmp-once : Once contracts.LoraBwOrd.cmp.ended cmd_lora.LoraBwOrd.cmp.Reads.Pre cmd_lora.LoraBwOrd.cmp.Reads.Learnt
 lora-bw-cmp-once κs a h o u p q i = (same p q i, o.1)
 
 lora-cr-code-once : Once contracts.LoraCr.code.ended cmd_lora.LoraCr.code.Reads.Pre cmd_lora.LoraCr.code.Reads.Learnt

@@ -1,14 +1,12 @@
 -- The exact widths of `LoraBw` (REFERENCE, "Widths"), its order, and what the coding rates are, as the methods of the Rust's enums give them.
 -- Assumes nothing.
-use Rattle.std.specs.Prelude.{ℕ, ◌/◌, Bool, true, false, cond, ltb, eqb}
+use Rattle.std.specs.Prelude.{ℕ, ◌/◌, Bool, true, false}
 use Rattle.cmd_lora.specs.declared.LoraBw.{LoraBw}
 use Rattle.cmd_lora.specs.declared.LoraBw.TheVariants.{Bw7, Bw15, Bw31, Bw62, Bw125, Bw250, Bw500, Bw1000}
 use Rattle.cmd_lora.specs.declared.LoraBw.TheVariants.{Bw10, Bw20, Bw41, Bw83, Bw101, Bw203, Bw406, Bw812}
 use Rattle.cmd_lora.specs.declared.LoraCr.{LoraCr}
 use Rattle.cmd_lora.specs.declared.LoraCr.TheVariants.{NoCoding, Cr1Ham45Si, Cr2Ham23Si, Cr3Ham47Si, Cr4Ham12Si}
 use Rattle.cmd_lora.specs.declared.LoraCr.TheVariants.{Cr5Ham45Li, Cr6Ham23Li, Cr7Ham12Li, Cr8Cc23, Cr9Cc12}
-use Rattle.cmd_lora.specs.declared.Ordering.{Ordering}
-use Rattle.cmd_lora.specs.declared.Ordering.TheVariants.{Less, Equal, Greater}
 
 -- a width of `hz` Hz in `parts` parts
 pub record Width : Type 0 where
@@ -85,7 +83,3 @@ denominator_of Cr6Ham23Li = 6
 denominator_of Cr7Ham12Li = 8
 denominator_of Cr8Cc23 = 6
 denominator_of Cr9Cc12 = 8
-
--- how two numbers compare
-abbrev pub ordered : ℕ → ℕ → Ordering
-ordered a b = cond (ltb a b) Less (cond (eqb a b) Equal Greater)

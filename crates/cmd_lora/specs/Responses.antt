@@ -1,17 +1,14 @@
 -- The responses to the LoRa commands: where each field stands behind the status (REFERENCE, "Responses"). Another length is refused.
 -- Assumes nothing.
-use Rattle.std.specs.Prelude.{ℕ, cond, List, eqb, length}
+use Rattle.std.specs.Prelude.{ℕ, cond, List, Result, Ok, Err, eqb, length}
 use Rattle.status.specs.Notation.{byte, wide, bits, bit, half}
 use Rattle.status.specs.Words.{status_of}
 use Rattle.reading.specs.Level.{signed_of}
 use Rattle.reading.specs.declared.QuarterDb.{QuarterDb}
+use Rattle.refusal.specs.declared.Refusal.{Refusal}
 use Rattle.refusal.specs.declared.Refusal.TheVariants.{ResponseLength}
 use Rattle.cmd_lora.specs.declared.rsp.LoraRxStatsRsp.{LoraRxStatsRsp}
-use Rattle.cmd_lora.specs.declared.rsp.LoraRxStatsRead.{LoraRxStatsRead}
-use Rattle.cmd_lora.specs.declared.rsp.LoraRxStatsRead.TheVariants as lora_rx_stats
 use Rattle.cmd_lora.specs.declared.rsp.LoraPacketStatusRsp.{LoraPacketStatusRsp}
-use Rattle.cmd_lora.specs.declared.rsp.LoraPacketStatusRead.{LoraPacketStatusRead}
-use Rattle.cmd_lora.specs.declared.rsp.LoraPacketStatusRead.TheVariants as lora_packet_status
 
 -- a byte in two's complement
 unfoldable pub snr : ℕ → QuarterDb
@@ -29,8 +26,8 @@ lora_rx_stats_rsp b =
       false_sync = wide b 10 11;
     }
 
-abbrev pub lora_rx_stats_read : List ℕ → LoraRxStatsRead
-lora_rx_stats_read b = cond (eqb (length b) 12) (lora_rx_stats.Rsp (lora_rx_stats_rsp b)) (lora_rx_stats.Refused ResponseLength)
+abbrev pub lora_rx_stats_read : List ℕ → Result LoraRxStatsRsp Refusal
+lora_rx_stats_read b = cond (eqb (length b) 12) (Ok (lora_rx_stats_rsp b)) (Err ResponseLength)
 
 -- eight bytes; the last bits of both levels are in byte 7
 unfoldable pub lora_packet_status_rsp : List ℕ → LoraPacketStatusRsp
@@ -46,5 +43,5 @@ lora_packet_status_rsp b =
       detector = bits b 7 5 2;
     }
 
-abbrev pub lora_packet_status_read : List ℕ → LoraPacketStatusRead
-lora_packet_status_read b = cond (eqb (length b) 8) (lora_packet_status.Rsp (lora_packet_status_rsp b)) (lora_packet_status.Refused ResponseLength)
+abbrev pub lora_packet_status_read : List ℕ → Result LoraPacketStatusRsp Refusal
+lora_packet_status_read b = cond (eqb (length b) 8) (Ok (lora_packet_status_rsp b)) (Err ResponseLength)

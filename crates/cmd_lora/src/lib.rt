@@ -2,118 +2,69 @@
 #![tactic(auto)]
 
 ghost use Rattle.std.specs.Prelude.{◌≡◌, [], ◌∷◌};
+ghost use Rattle.std.proofs.Common.{rules};
+ghost use Rattle.std.specs.Cmp.{partial_order_from_own_ties};
+ghost use Rattle.std.specs.Cmp.Rules.{comparing};
+ghost use Rattle.std.specs.Ordering.{as_partial_cmp, nat_cmp, on};
 ghost use Rattle.table.specs.Table.{plain, yes_no};
 ghost use Rattle.cmd_lora.specs.Codes.{sf_code, lora_bw_code, lora_cr_code, ldro_code, lora_filter_code};
 ghost use Rattle.cmd_lora.specs.Codes.{header_type_code, timeout_format_code, lora_cad_exit_mode_code, addr_len_code, timing_sync_mode_code};
-ghost use Rattle.cmd_lora.specs.Methods.{hz_of, is_fractional, is_li, denominator_of, ordered};
+ghost use Rattle.cmd_lora.specs.Methods.{hz_of, is_fractional, is_li, denominator_of};
 
+use std::cmp::Ordering;
 use table::{OPCODE, fields, put_plain, yes_no};
 
 pub mod rsp;
 
-pub use rsp::{LoraPacketStatusRead, LoraPacketStatusRsp, LoraRxStatsRead, LoraRxStatsRsp};
-
-// How two values compare.
-#[derive(Clone, Copy)]
-pub enum Ordering {
-    Less,
-    Equal,
-    Greater,
-}
-
-fn order(a: u64, b: u64) -> Ordering
-    ensures { result ≡ ordered a b }
-{
-    if a < b {
-        return Ordering::Less;
-    }
-    if a == b {
-        Ordering::Equal
-    } else {
-        Ordering::Greater
-    }
-}
+pub use rsp::{LoraPacketStatusRsp, LoraRxStatsRsp};
 
 // Spreading factor: 2^n chips a symbol.
-#[derive(Clone, Copy)]
+#[derive(Clone, Copy, PartialEq, Eq, PartialOrd, Ord, Debug)]
 pub enum Sf {
-    Sf5,
-    Sf6,
-    Sf7,
-    Sf8,
-    Sf9,
-    Sf10,
-    Sf11,
-    Sf12,
+    Sf5 = 5,
+    Sf6 = 6,
+    Sf7 = 7,
+    Sf8 = 8,
+    Sf9 = 9,
+    Sf10 = 10,
+    Sf11 = 11,
+    Sf12 = 12,
 }
 
 impl Sf {
     pub fn code(self) -> u64
         ensures { result ≡ sf_code self }
     {
-        match self {
-            Sf::Sf5 => 5,
-            Sf::Sf6 => 6,
-            Sf::Sf7 => 7,
-            Sf::Sf8 => 8,
-            Sf::Sf9 => 9,
-            Sf::Sf10 => 10,
-            Sf::Sf11 => 11,
-            Sf::Sf12 => 12,
-        }
-    }
-
-    // By spreading factor.
-    pub fn cmp(self, other: Sf) -> Ordering
-        ensures { result ≡ ordered (sf_code self) (sf_code other) }
-    {
-        order(self.code(), other.code())
+        self as u64
     }
 }
 
 // LoRa bandwidth. The names drop the fraction of the kHz.
-#[derive(Clone, Copy)]
+#[derive(Clone, Copy, PartialEq, Eq, Debug)]
 pub enum LoraBw {
-    Bw7,
-    Bw15,
-    Bw31,
-    Bw62,
-    Bw125,
-    Bw250,
-    Bw500,
-    Bw1000,
-    Bw10,
-    Bw20,
-    Bw41,
-    Bw83,
-    Bw101,
-    Bw203,
-    Bw406,
-    Bw812,
+    Bw7 = 0,
+    Bw15 = 1,
+    Bw31 = 2,
+    Bw62 = 3,
+    Bw125 = 4,
+    Bw250 = 5,
+    Bw500 = 6,
+    Bw1000 = 7,
+    Bw10 = 8,
+    Bw20 = 9,
+    Bw41 = 10,
+    Bw83 = 11,
+    Bw101 = 12,
+    Bw203 = 13,
+    Bw406 = 14,
+    Bw812 = 15,
 }
 
 impl LoraBw {
     pub fn code(self) -> u64
         ensures { result ≡ lora_bw_code self }
     {
-        match self {
-            LoraBw::Bw7 => 0,
-            LoraBw::Bw15 => 1,
-            LoraBw::Bw31 => 2,
-            LoraBw::Bw62 => 3,
-            LoraBw::Bw125 => 4,
-            LoraBw::Bw250 => 5,
-            LoraBw::Bw500 => 6,
-            LoraBw::Bw1000 => 7,
-            LoraBw::Bw10 => 8,
-            LoraBw::Bw20 => 9,
-            LoraBw::Bw41 => 10,
-            LoraBw::Bw83 => 11,
-            LoraBw::Bw101 => 12,
-            LoraBw::Bw203 => 13,
-            LoraBw::Bw406 => 14,
-            LoraBw::Bw812 => 15,
-        }
+        self as u64
     }
 
     // The exact width in Hz, rounded down.
@@ -144,83 +95,72 @@ impl LoraBw {
     pub fn is_fractional(self) -> bool
         ensures { result ≡ is_fractional self }
     {
-        match self {
-            LoraBw::Bw812 => true,
-            LoraBw::Bw406 => true,
-            LoraBw::Bw203 => true,
-            LoraBw::Bw101 => true,
-            LoraBw::Bw7 => false,
-            LoraBw::Bw15 => false,
-            LoraBw::Bw31 => false,
-            LoraBw::Bw62 => false,
-            LoraBw::Bw125 => false,
-            LoraBw::Bw250 => false,
-            LoraBw::Bw500 => false,
-            LoraBw::Bw1000 => false,
-            LoraBw::Bw10 => false,
-            LoraBw::Bw20 => false,
-            LoraBw::Bw41 => false,
-            LoraBw::Bw83 => false,
-        }
+        matches!(
+            self,
+            LoraBw::Bw812 | LoraBw::Bw406 | LoraBw::Bw203 | LoraBw::Bw101
+        )
     }
+}
 
-    // By width in Hz, not by code.
-    pub fn cmp(self, other: LoraBw) -> Ordering
-        ensures { result ≡ ordered (hz_of self) (hz_of other) }
-    {
-        order(self.to_hz() as u64, other.to_hz() as u64)
+// By width in Hz, not by code.
+impl PartialOrd for LoraBw {
+    ghost partial_cmp = { as_partial_cmp (on hz_of nat_cmp) };
+
+    ghost laws = { partial_order_from_own_ties (Prim.search (comparing, rules)) (Prim.search (comparing, rules)) };
+
+    fn partial_cmp(&self, other: &LoraBw) -> Option<Ordering> {
+        Some(self.cmp(other))
+    }
+}
+
+impl Ord for LoraBw {
+    ghost cmp = { on hz_of nat_cmp };
+
+    ghost total = { Prim.search (comparing, rules) };
+
+    ghost matches_partial_cmp = { Prim.search (comparing, rules) };
+
+    ghost matches_eq = { Prim.search (comparing, rules) };
+
+    fn cmp(&self, other: &LoraBw) -> Ordering {
+        self.to_hz().cmp(&other.to_hz())
     }
 }
 
 // LoRa coding rate: short interleaving (Si), long interleaving (Li) or convolutional (Cc).
-#[derive(Clone, Copy)]
+#[derive(Clone, Copy, PartialEq, Eq, Debug)]
 pub enum LoraCr {
-    NoCoding,
-    Cr1Ham45Si,
-    Cr2Ham23Si,
-    Cr3Ham47Si,
-    Cr4Ham12Si,
-    Cr5Ham45Li,
-    Cr6Ham23Li,
-    Cr7Ham12Li,
-    Cr8Cc23,
-    Cr9Cc12,
+    NoCoding = 0,
+    Cr1Ham45Si = 1,
+    Cr2Ham23Si = 2,
+    Cr3Ham47Si = 3,
+    Cr4Ham12Si = 4,
+    Cr5Ham45Li = 5,
+    Cr6Ham23Li = 6,
+    Cr7Ham12Li = 7,
+    Cr8Cc23 = 8,
+    Cr9Cc12 = 9,
 }
 
 impl LoraCr {
     pub fn code(self) -> u64
         ensures { result ≡ lora_cr_code self }
     {
-        match self {
-            LoraCr::NoCoding => 0,
-            LoraCr::Cr1Ham45Si => 1,
-            LoraCr::Cr2Ham23Si => 2,
-            LoraCr::Cr3Ham47Si => 3,
-            LoraCr::Cr4Ham12Si => 4,
-            LoraCr::Cr5Ham45Li => 5,
-            LoraCr::Cr6Ham23Li => 6,
-            LoraCr::Cr7Ham12Li => 7,
-            LoraCr::Cr8Cc23 => 8,
-            LoraCr::Cr9Cc12 => 9,
-        }
+        self as u64
     }
 
     // Whether it interleaves long.
     pub fn is_li(self) -> bool
         ensures { result ≡ is_li self }
     {
-        match self {
-            LoraCr::Cr5Ham45Li => true,
-            LoraCr::Cr6Ham23Li => true,
-            LoraCr::Cr7Ham12Li => true,
-            LoraCr::Cr8Cc23 => true,
-            LoraCr::Cr9Cc12 => true,
-            LoraCr::NoCoding => false,
-            LoraCr::Cr1Ham45Si => false,
-            LoraCr::Cr2Ham23Si => false,
-            LoraCr::Cr3Ham47Si => false,
-            LoraCr::Cr4Ham12Si => false,
-        }
+        matches!(
+            self,
+            LoraCr::Cr5Ham45Li
+                | LoraCr::Cr6Ham23Li
+                | LoraCr::Cr7Ham12Li
+                | LoraCr::Cr8Cc23
+                | LoraCr::Cr9Cc12
+        )
     }
 
     // The denominator over a numerator of 4.
@@ -229,164 +169,127 @@ impl LoraCr {
     {
         match self {
             LoraCr::NoCoding => 4,
-            LoraCr::Cr1Ham45Si => 5,
-            LoraCr::Cr2Ham23Si => 6,
+            LoraCr::Cr1Ham45Si | LoraCr::Cr5Ham45Li => 5,
+            LoraCr::Cr2Ham23Si | LoraCr::Cr6Ham23Li | LoraCr::Cr8Cc23 => 6,
             LoraCr::Cr3Ham47Si => 7,
-            LoraCr::Cr4Ham12Si => 8,
-            LoraCr::Cr5Ham45Li => 5,
-            LoraCr::Cr6Ham23Li => 6,
-            LoraCr::Cr7Ham12Li => 8,
-            LoraCr::Cr8Cc23 => 6,
-            LoraCr::Cr9Cc12 => 8,
+            LoraCr::Cr4Ham12Si | LoraCr::Cr7Ham12Li | LoraCr::Cr9Cc12 => 8,
         }
     }
 }
 
 // Low data rate optimisation, for long symbols.
-#[derive(Clone, Copy)]
+#[derive(Clone, Copy, PartialEq, Eq, Debug)]
 pub enum Ldro {
-    Off,
-    On,
+    Off = 0,
+    On = 1,
 }
 
 impl Ldro {
     pub fn code(self) -> u64
         ensures { result ≡ ldro_code self }
     {
-        match self {
-            Ldro::Off => 0,
-            Ldro::On => 1,
-        }
+        self as u64
     }
 }
 
 // Extra filter for the fractional bandwidths.
-#[derive(Clone, Copy)]
+#[derive(Clone, Copy, PartialEq, Eq, Debug)]
 pub enum LoraFilter {
-    Auto,
-    Chf,
-    Dcc,
-    DccF,
+    Auto = 0,
+    Chf = 1,
+    Dcc = 2,
+    DccF = 3,
 }
 
 impl LoraFilter {
     pub fn code(self) -> u64
         ensures { result ≡ lora_filter_code self }
     {
-        match self {
-            LoraFilter::Auto => 0,
-            LoraFilter::Chf => 1,
-            LoraFilter::Dcc => 2,
-            LoraFilter::DccF => 3,
-        }
+        self as u64
     }
 }
 
 // Whether a packet carries its own header.
-#[derive(Clone, Copy)]
+#[derive(Clone, Copy, PartialEq, Eq, Debug)]
 pub enum HeaderType {
-    Explicit,
-    Implicit,
+    Explicit = 0,
+    Implicit = 1,
 }
 
 impl HeaderType {
     pub fn code(self) -> u64
         ensures { result ≡ header_type_code self }
     {
-        match self {
-            HeaderType::Explicit => 0,
-            HeaderType::Implicit => 1,
-        }
+        self as u64
     }
 }
 
 // How a number of symbols is written: plainly, or as mantissa and exponent.
-#[derive(Clone, Copy)]
+#[derive(Clone, Copy, PartialEq, Eq, Debug)]
 pub enum TimeoutFormat {
-    Integer,
-    Float,
+    Integer = 0,
+    Float = 1,
 }
 
 impl TimeoutFormat {
     pub fn code(self) -> u64
         ensures { result ≡ timeout_format_code self }
     {
-        match self {
-            TimeoutFormat::Integer => 0,
-            TimeoutFormat::Float => 1,
-        }
+        self as u64
     }
 }
 
 // What follows a LoRa channel activity detection. The Rust's `cmd_lora::ExitMode`.
-#[derive(Clone, Copy)]
+#[derive(Clone, Copy, PartialEq, Eq, Debug)]
 pub enum LoraCadExitMode {
-    CadOnly,
-    CadRx,
-    CadLbt,
+    CadOnly = 0,
+    CadRx = 1,
+    CadLbt = 16,
 }
 
 impl LoraCadExitMode {
     pub fn code(self) -> u64
         ensures { result ≡ lora_cad_exit_mode_code self }
     {
-        match self {
-            LoraCadExitMode::CadOnly => 0,
-            LoraCadExitMode::CadRx => 1,
-            LoraCadExitMode::CadLbt => 16,
-        }
+        self as u64
     }
 }
 
 // How many bytes the address filter compares.
-#[derive(Clone, Copy)]
+#[derive(Clone, Copy, PartialEq, Eq, Debug)]
 pub enum AddrLen {
-    AddrNone,
-    Addr1B,
-    Addr2B,
-    Addr3B,
-    Addr4B,
-    Addr5B,
-    Addr6B,
-    Addr7B,
-    Addr8B,
+    AddrNone = 0,
+    Addr1B = 1,
+    Addr2B = 2,
+    Addr3B = 3,
+    Addr4B = 4,
+    Addr5B = 5,
+    Addr6B = 6,
+    Addr7B = 7,
+    Addr8B = 8,
 }
 
 impl AddrLen {
     pub fn code(self) -> u64
         ensures { result ≡ addr_len_code self }
     {
-        match self {
-            AddrLen::AddrNone => 0,
-            AddrLen::Addr1B => 1,
-            AddrLen::Addr2B => 2,
-            AddrLen::Addr3B => 3,
-            AddrLen::Addr4B => 4,
-            AddrLen::Addr5B => 5,
-            AddrLen::Addr6B => 6,
-            AddrLen::Addr7B => 7,
-            AddrLen::Addr8B => 8,
-        }
+        self as u64
     }
 }
 
 // The part that the radio takes in a synchronized transmission.
-#[derive(Clone, Copy)]
+#[derive(Clone, Copy, PartialEq, Eq, Debug)]
 pub enum TimingSyncMode {
-    Disabled,
-    Initiator,
-    Responder,
+    Disabled = 0,
+    Initiator = 1,
+    Responder = 2,
 }
 
 impl TimingSyncMode {
     pub fn code(self) -> u64
         ensures { result ≡ timing_sync_mode_code self }
     {
-        match self {
-            TimingSyncMode::Disabled => 0,
-            TimingSyncMode::Initiator => 1,
-            TimingSyncMode::Responder => 2,
-        }
+        self as u64
     }
 }
 

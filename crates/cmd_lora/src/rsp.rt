@@ -1,18 +1,11 @@
 // The responses to the LoRa commands, as the fields that they hold. specs/Responses.antt has the places.
 ghost use Rattle.std.specs.Prelude.{◌≡◌};
-ghost use Rattle.cmd_lora.specs.Responses.{snr, lora_rx_stats_rsp, lora_rx_stats_read, lora_packet_status_rsp, lora_packet_status_read};
+ghost use Rattle.cmd_lora.specs.Responses.{lora_rx_stats_rsp, lora_rx_stats_read, lora_packet_status_rsp, lora_packet_status_read};
 
 use frame::byte_at;
 use reading::{HalfDbm, QuarterDb};
 use refusal::Refusal;
 use status::{Status, half, word_at};
-
-// An SNR byte as a reading.
-fn snr(b: u8) -> QuarterDb
-    ensures { result ≡ snr b }
-{
-    QuarterDb::from_byte(b)
-}
 
 // Counts since the last reset: packets, of these with a wrong CRC and with a wrong header, detected preambles, false synchronizations.
 #[derive(Clone, Copy)]
@@ -25,42 +18,29 @@ pub struct LoraRxStatsRsp {
     pub false_sync: u16,
 }
 
-// What bytes give: the response, or a refusal where they are not 12.
-#[derive(Clone, Copy)]
-pub enum LoraRxStatsRead {
-    Rsp(LoraRxStatsRsp),
-    Refused(Refusal),
-}
-
 impl LoraRxStatsRsp {
-    // The fields; the two readers below see to the length.
-    fn read(bytes: &[u8]) -> LoraRxStatsRsp
-        ensures { result ≡ lora_rx_stats_rsp bytes.now }
-    {
-        LoraRxStatsRsp {
-            status: Status::from_slice(bytes),
-            pkt_rx: word_at(bytes, 2),
-            crc_error: word_at(bytes, 4),
-            header_error: word_at(bytes, 6),
-            detection: word_at(bytes, 8),
-            false_sync: word_at(bytes, 10),
-        }
-    }
-
+    #[tactic(auto, unfolding(crate::specs::Responses::lora_rx_stats_rsp))]
     pub fn from_array(bytes: [u8; 12]) -> LoraRxStatsRsp
         ensures { result ≡ lora_rx_stats_rsp bytes }
     {
-        LoraRxStatsRsp::read(&bytes)
+        LoraRxStatsRsp {
+            status: Status::from_slice(&bytes),
+            pkt_rx: word_at(&bytes, 2),
+            crc_error: word_at(&bytes, 4),
+            header_error: word_at(&bytes, 6),
+            detection: word_at(&bytes, 8),
+            false_sync: word_at(&bytes, 10),
+        }
     }
 
-    pub fn from_slice(bytes: &[u8]) -> LoraRxStatsRead
+    // Bytes of another length are no such response.
+    pub fn from_slice(bytes: &[u8]) -> Result<LoraRxStatsRsp, Refusal>
         ensures { result ≡ lora_rx_stats_read bytes.now }
     {
-        if bytes.len() == 12 {
-            LoraRxStatsRead::Rsp(LoraRxStatsRsp::read(bytes))
-        } else {
-            LoraRxStatsRead::Refused(Refusal::ResponseLength)
-        }
+        let Ok(array) = <[u8; 12]>::try_from(bytes) else {
+            return Err(Refusal::ResponseLength);
+        };
+        Ok(LoraRxStatsRsp::from_array(array))
     }
 }
 
@@ -79,43 +59,30 @@ pub struct LoraPacketStatusRsp {
     pub detector: u8,
 }
 
-// What bytes give: the response, or a refusal where they are not 8.
-#[derive(Clone, Copy)]
-pub enum LoraPacketStatusRead {
-    Rsp(LoraPacketStatusRsp),
-    Refused(Refusal),
-}
-
 impl LoraPacketStatusRsp {
-    // The fields; the two readers below see to the length.
-    fn read(bytes: &[u8]) -> LoraPacketStatusRsp
-        ensures { result ≡ lora_packet_status_rsp bytes.now }
-    {
-        LoraPacketStatusRsp {
-            status: Status::from_slice(bytes),
-            crc: byte_at(bytes, 2) & 0x10 != 0,
-            coding_rate: byte_at(bytes, 2) % 16,
-            pkt_length: byte_at(bytes, 3),
-            snr_pkt: snr(byte_at(bytes, 4)),
-            rssi_pkt: HalfDbm(half(byte_at(bytes, 5), byte_at(bytes, 7) / 2 % 2)),
-            rssi_signal_pkt: HalfDbm(half(byte_at(bytes, 6), byte_at(bytes, 7) % 2)),
-            detector: byte_at(bytes, 7) / 4 % 16,
-        }
-    }
-
+    #[tactic(auto, unfolding(crate::specs::Responses::lora_packet_status_rsp, crate::specs::Responses::snr))]
     pub fn from_array(bytes: [u8; 8]) -> LoraPacketStatusRsp
         ensures { result ≡ lora_packet_status_rsp bytes }
     {
-        LoraPacketStatusRsp::read(&bytes)
+        LoraPacketStatusRsp {
+            status: Status::from_slice(&bytes),
+            crc: byte_at(&bytes, 2) & 0x10 != 0,
+            coding_rate: byte_at(&bytes, 2) % 16,
+            pkt_length: byte_at(&bytes, 3),
+            snr_pkt: QuarterDb::from_byte(byte_at(&bytes, 4)),
+            rssi_pkt: HalfDbm(half(byte_at(&bytes, 5), byte_at(&bytes, 7) / 2 % 2)),
+            rssi_signal_pkt: HalfDbm(half(byte_at(&bytes, 6), byte_at(&bytes, 7) % 2)),
+            detector: byte_at(&bytes, 7) / 4 % 16,
+        }
     }
 
-    pub fn from_slice(bytes: &[u8]) -> LoraPacketStatusRead
+    // Bytes of another length are no such response.
+    pub fn from_slice(bytes: &[u8]) -> Result<LoraPacketStatusRsp, Refusal>
         ensures { result ≡ lora_packet_status_read bytes.now }
     {
-        if bytes.len() == 8 {
-            LoraPacketStatusRead::Rsp(LoraPacketStatusRsp::read(bytes))
-        } else {
-            LoraPacketStatusRead::Refused(Refusal::ResponseLength)
-        }
+        let Ok(array) = <[u8; 8]>::try_from(bytes) else {
+            return Err(Refusal::ResponseLength);
+        };
+        Ok(LoraPacketStatusRsp::from_array(array))
     }
 }

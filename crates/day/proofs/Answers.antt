@@ -8,13 +8,10 @@ use Prim.Native.Nat.{ℕ}
 use lib.Dec.{eqb}
 use lib.ListN.{length}
 use borrow.Author.Tests.{eqb-true}
+use Rattle.std.specs.Prelude.{Ok, Err}
 use Rattle.refusal.specs.declared.Refusal.TheVariants.{ResponseLength}
 use Rattle.cmd_lora.specs.Responses.{lora_rx_stats_rsp, lora_packet_status_rsp}
 use Rattle.cmd_fsk.specs.Responses.{fsk_rx_stats_rsp, fsk_packet_status_rsp}
-use Rattle.cmd_lora.specs.declared.rsp.LoraRxStatsRead.TheVariants as lora_rx_stats
-use Rattle.cmd_lora.specs.declared.rsp.LoraPacketStatusRead.TheVariants as lora_packet_status
-use Rattle.cmd_fsk.specs.declared.rsp.FskRxStatsRead.TheVariants as fsk_rx_stats
-use Rattle.cmd_fsk.specs.declared.rsp.FskPacketStatusRead.TheVariants as fsk_packet_status
 use Rattle.day.specs.declared.Day.{Day}
 use Rattle.day.specs.Days.{heard_lora_rx_stats, heard_lora_packet_status, heard_fsk_rx_stats, heard_fsk_packet_status, missed, on_received}
 use Rattle.day.specs.Tally.{is_reading}
@@ -22,16 +19,16 @@ use Rattle.day.specs.Tally.{is_reading}
 module _ (b : List ℕ) (d : Day) where
   -- the day after a reading of each request
   abbrev pub lora-stats : Day
-  lora-stats = heard_lora_rx_stats (lora_rx_stats.Rsp (lora_rx_stats_rsp b)) d
+  lora-stats = heard_lora_rx_stats (Ok (lora_rx_stats_rsp b)) d
 
   abbrev pub lora-packet : Day
-  lora-packet = heard_lora_packet_status (lora_packet_status.Rsp (lora_packet_status_rsp b)) d
+  lora-packet = heard_lora_packet_status (Ok (lora_packet_status_rsp b)) d
 
   abbrev pub fsk-stats : Day
-  fsk-stats = heard_fsk_rx_stats (fsk_rx_stats.Rsp (fsk_rx_stats_rsp b)) d
+  fsk-stats = heard_fsk_rx_stats (Ok (fsk_rx_stats_rsp b)) d
 
   abbrev pub fsk-packet : Day
-  fsk-packet = heard_fsk_packet_status (fsk_packet_status.Rsp (fsk_packet_status_rsp b)) d
+  fsk-packet = heard_fsk_packet_status (Ok (fsk_packet_status_rsp b)) d
 
   pub answered : (P : Day → Type 0) → (d.latest ≡ 9 → eqb (length b) 12 ≡ true → P lora-stats) → (d.latest ≡ 10 → eqb (length b) 8 ≡ true → P lora-packet)
       → (d.latest ≡ 22 → eqb (length b) 16 ≡ true → P fsk-stats) → (d.latest ≡ 23 → eqb (length b) 8 ≡ true → P fsk-packet)
@@ -44,10 +41,10 @@ module _ (b : List ℕ) (d : Day) where
       go : (i : Bool) → eqb d.latest 9 ≡ i → (j : Bool) → eqb d.latest 10 ≡ j → (k : Bool) → eqb d.latest 22 ≡ k → (l : Bool)
           → eqb d.latest 23 ≡ l → (u : Bool) → eqb (length b) 12 ≡ u → (v : Bool) → eqb (length b) 8 ≡ v → (w : Bool) → eqb (length b) 16 ≡ w
           → (cond i u (cond j v (cond k w (cond l v false))) ≡ false → P (missed d))
-          → P (cond i (heard_lora_rx_stats (cond u (lora_rx_stats.Rsp (lora_rx_stats_rsp b)) (lora_rx_stats.Refused ResponseLength)) d)
-          (cond j (heard_lora_packet_status (cond v (lora_packet_status.Rsp (lora_packet_status_rsp b)) (lora_packet_status.Refused ResponseLength)) d)
-          (cond k (heard_fsk_rx_stats (cond w (fsk_rx_stats.Rsp (fsk_rx_stats_rsp b)) (fsk_rx_stats.Refused ResponseLength)) d)
-          (cond l (heard_fsk_packet_status (cond v (fsk_packet_status.Rsp (fsk_packet_status_rsp b)) (fsk_packet_status.Refused ResponseLength)) d)
+          → P (cond i (heard_lora_rx_stats (cond u (Ok (lora_rx_stats_rsp b)) (Err ResponseLength)) d)
+          (cond j (heard_lora_packet_status (cond v (Ok (lora_packet_status_rsp b)) (Err ResponseLength)) d)
+          (cond k (heard_fsk_rx_stats (cond w (Ok (fsk_rx_stats_rsp b)) (Err ResponseLength)) d)
+          (cond l (heard_fsk_packet_status (cond v (Ok (fsk_packet_status_rsp b)) (Err ResponseLength)) d)
           (missed d)))))
       go true ei j ej k ek l el true eu v ev w ew n = p9 (eqb-true _ _ ei) eu
       go true ei j ej k ek l el false eu v ev w ew n = n refl

@@ -14,19 +14,12 @@ use Rattle.refusal.specs.Numbers.{number_of}
 use Rattle.decoder.proofs.Handed.{decoded-reading, decoded-refuses}
 use Rattle.decoder.specs.declared.Decoded.{Decoded}
 use Rattle.decoder.specs.Decoding.{Reading, reading, refuses, decoded, decode}
-use Rattle.cmd_lora.specs.Responses.{lora_rx_stats_read, lora_packet_status_read}
-use Rattle.cmd_fsk.specs.Responses.{fsk_rx_stats_read, fsk_packet_status_read}
-use Rattle.cmd_lora.specs.declared.rsp.LoraRxStatsRead.{LoraRxStatsRead}
-use Rattle.cmd_lora.specs.declared.rsp.LoraPacketStatusRead.{LoraPacketStatusRead}
-use Rattle.cmd_fsk.specs.declared.rsp.FskRxStatsRead.{FskRxStatsRead}
-use Rattle.cmd_fsk.specs.declared.rsp.FskPacketStatusRead.{FskPacketStatusRead}
 use Rattle.book.specs.declared.Answer.{Answer as Said}
 use Rattle.book.specs.declared.Answer.TheVariants as said
 use Rattle.book.specs.Book.{Permits}
 use Rattle.book.specs.History.{Put, after}
 use Rattle.day.specs.declared.Day.{Day}
-use Rattle.day.specs.Days.{most, plus, noted, refused_one, tallied, missed, on_received}
-use Rattle.day.specs.Days.{heard_lora_rx_stats, heard_lora_packet_status, heard_fsk_rx_stats, heard_fsk_packet_status}
+use Rattle.day.specs.Days.{most, plus, noted, refused_one, tallied}
 use Rattle.day.specs.Steps.{sent_day, sent_bytes}
 use Rattle.day.proofs.Commands.{PutAs, action-sent, setting-sent, stray-sent}
 
@@ -39,32 +32,6 @@ plus-fits count n h = rw (le-leb (count + n) most h) refl
 pub plus-stays : (count n : ℕ) → most < count + n → plus count n ≡ count
 unfolding plus
 plus-stays count n h = rw (lt-leb (count + n) most h) refl
-
--- ---- answers
-
-module _ (b : List ℕ) (d x : Day) where
-  pub received-9 : (q : LoraRxStatsRead) → d.latest ≡ 9 → x ≡ heard_lora_rx_stats q d → q ≡ lora_rx_stats_read b → x ≡ on_received b d
-  unfolding on_received
-  received-9 q e h r = h ∙ rw (r, eq-eqb d.latest 9 e) refl
-
-  module _ (n9 : d.latest ≡ 9 → ⊥) where
-    pub received-10 : (q : LoraPacketStatusRead) → d.latest ≡ 10 → x ≡ heard_lora_packet_status q d → q ≡ lora_packet_status_read b → x ≡ on_received b d
-    unfolding on_received
-    received-10 q e h r = h ∙ rw (r, ne_eqb d.latest 9 n9, eq-eqb d.latest 10 e) refl
-
-    module _ (n10 : d.latest ≡ 10 → ⊥) where
-      pub received-22 : (q : FskRxStatsRead) → d.latest ≡ 22 → x ≡ heard_fsk_rx_stats q d → q ≡ fsk_rx_stats_read b → x ≡ on_received b d
-      unfolding on_received
-      received-22 q e h r = h ∙ rw (r, ne_eqb d.latest 9 n9, ne_eqb d.latest 10 n10, eq-eqb d.latest 22 e) refl
-
-      module _ (n22 : d.latest ≡ 22 → ⊥) where
-        pub received-23 : (q : FskPacketStatusRead) → d.latest ≡ 23 → x ≡ heard_fsk_packet_status q d → q ≡ fsk_packet_status_read b → x ≡ on_received b d
-        unfolding on_received
-        received-23 q e h r = h ∙ rw (r, ne_eqb d.latest 9 n9, ne_eqb d.latest 10 n10, ne_eqb d.latest 22 n22, eq-eqb d.latest 23 e) refl
-
-        pub received-other : (d.latest ≡ 23 → ⊥) → x ≡ missed d → x ≡ on_received b d
-        unfolding on_received
-        received-other n23 h = h ∙ rw (ne_eqb d.latest 9 n9, ne_eqb d.latest 10 n10, ne_eqb d.latest 22 n22, ne_eqb d.latest 23 n23) refl
 
 -- ---- puts
 

@@ -14,6 +14,7 @@ use lib.Dec.{eqb, ltb}
 use lib.ListN.{length, get_or, get_or-replicate, set, replicate}
 use lib.Seq.{get_or-set_other, get_or-set_same}
 use borrow.Author.Tests.{eqb-true, eqb-false, ne_eqb}
+use Rattle.std.specs.Prelude.{None, Some}
 use Rattle.refusal.specs.declared.Refusal.{Refusal}
 use Rattle.refusal.specs.Numbers.{number_of}
 use Rattle.decoder.specs.Decoding.{decode}
@@ -23,10 +24,6 @@ use Rattle.book.specs.declared.Answer.{Answer}
 use Rattle.book.specs.declared.Answer.TheVariants.{Done, Refused}
 use Rattle.book.specs.Plain.{placed, put_on}
 use Rattle.day.specs.declared.Day.{Day}
-use Rattle.day.specs.declared.LastLoraRxStats.TheVariants as lastLoraRxStats
-use Rattle.day.specs.declared.LastLoraPacketStatus.TheVariants as lastLoraPacketStatus
-use Rattle.day.specs.declared.LastFskRxStats.TheVariants as lastFskRxStats
-use Rattle.day.specs.declared.LastFskPacketStatus.TheVariants as lastFskPacketStatus
 use Rattle.day.specs.Days.{accepted_one, bumped, fresh, is_action, kind_in, missed, most, noted, on_received, plus, refused_one, tallied}
 use Rattle.day.specs.Steps.{Record, State, day_on, morning, on_sent, received, sent, step}
 use Rattle.day.specs.Tally.{accepts, answers_to, newest, refused_from, refuses_by}
@@ -123,81 +120,81 @@ newest-none read x apart (b ∷ bs) = ((λ e. absurd (newest-some bs b e)), λ e
 
 module _ (room : ℕ) (rs : List Record) where
   pub last-lora-rx-stats :
-      (day_on room rs morning).day.lora_rx_stats ≡ newest (λ b. lastLoraRxStats.Last (lora_rx_stats_rsp b)) lastLoraRxStats.Never (answers_to 9 12 0 rs)
+      (day_on room rs morning).day.lora_rx_stats ≡ newest (λ b. Some (lora_rx_stats_rsp b)) None (answers_to 9 12 0 rs)
   unfolding fresh noted accepted_one refused_one missed
   last-lora-rx-stats =
-      last-from (λ d. d.lora_rx_stats) (λ b. lastLoraRxStats.Last (lora_rx_stats_rsp b)) 9 12
+      last-from (λ d. d.lora_rx_stats) (λ b. Some (lora_rx_stats_rsp b)) 9 12
       (record {
         kept = λ j d. refl;
         accepts = λ d. refl;
         refuses = λ n d. refl;
-        reads = λ b d. reads_of b d (λ e. e.lora_rx_stats) (lastLoraRxStats.Last (lora_rx_stats_rsp b)) 9 12 refl refl refl refl refl refl;
+        reads = λ b d. reads_of b d (λ e. e.lora_rx_stats) (Some (lora_rx_stats_rsp b)) 9 12 refl refl refl refl refl refl;
       })
       room rs morning
 
   pub last-lora-packet-status :
-      (day_on room rs morning).day.lora_packet_status ≡ newest (λ b. lastLoraPacketStatus.Last (lora_packet_status_rsp b)) lastLoraPacketStatus.Never (answers_to 10 8 0 rs)
+      (day_on room rs morning).day.lora_packet_status ≡ newest (λ b. Some (lora_packet_status_rsp b)) None (answers_to 10 8 0 rs)
   unfolding fresh noted accepted_one refused_one missed
   last-lora-packet-status =
-      last-from (λ d. d.lora_packet_status) (λ b. lastLoraPacketStatus.Last (lora_packet_status_rsp b)) 10 8
+      last-from (λ d. d.lora_packet_status) (λ b. Some (lora_packet_status_rsp b)) 10 8
       (record {
         kept = λ j d. refl;
         accepts = λ d. refl;
         refuses = λ n d. refl;
-        reads = λ b d. reads_of b d (λ e. e.lora_packet_status) (lastLoraPacketStatus.Last (lora_packet_status_rsp b)) 10 8 refl refl refl refl refl refl;
+        reads = λ b d. reads_of b d (λ e. e.lora_packet_status) (Some (lora_packet_status_rsp b)) 10 8 refl refl refl refl refl refl;
       })
       room rs morning
 
   pub last-fsk-rx-stats :
-      (day_on room rs morning).day.fsk_rx_stats ≡ newest (λ b. lastFskRxStats.Last (fsk_rx_stats_rsp b)) lastFskRxStats.Never (answers_to 22 16 0 rs)
+      (day_on room rs morning).day.fsk_rx_stats ≡ newest (λ b. Some (fsk_rx_stats_rsp b)) None (answers_to 22 16 0 rs)
   unfolding fresh noted accepted_one refused_one missed
   last-fsk-rx-stats =
-      last-from (λ d. d.fsk_rx_stats) (λ b. lastFskRxStats.Last (fsk_rx_stats_rsp b)) 22 16
+      last-from (λ d. d.fsk_rx_stats) (λ b. Some (fsk_rx_stats_rsp b)) 22 16
       (record {
         kept = λ j d. refl;
         accepts = λ d. refl;
         refuses = λ n d. refl;
-        reads = λ b d. reads_of b d (λ e. e.fsk_rx_stats) (lastFskRxStats.Last (fsk_rx_stats_rsp b)) 22 16 refl refl refl refl refl refl;
+        reads = λ b d. reads_of b d (λ e. e.fsk_rx_stats) (Some (fsk_rx_stats_rsp b)) 22 16 refl refl refl refl refl refl;
       })
       room rs morning
 
   pub last-fsk-packet-status :
-      (day_on room rs morning).day.fsk_packet_status ≡ newest (λ b. lastFskPacketStatus.Last (fsk_packet_status_rsp b)) lastFskPacketStatus.Never (answers_to 23 8 0 rs)
+      (day_on room rs morning).day.fsk_packet_status ≡ newest (λ b. Some (fsk_packet_status_rsp b)) None (answers_to 23 8 0 rs)
   unfolding fresh noted accepted_one refused_one missed
   last-fsk-packet-status =
-      last-from (λ d. d.fsk_packet_status) (λ b. lastFskPacketStatus.Last (fsk_packet_status_rsp b)) 23 8
+      last-from (λ d. d.fsk_packet_status) (λ b. Some (fsk_packet_status_rsp b)) 23 8
       (record {
         kept = λ j d. refl;
         accepts = λ d. refl;
         refuses = λ n d. refl;
-        reads = λ b d. reads_of b d (λ e. e.fsk_packet_status) (lastFskPacketStatus.Last (fsk_packet_status_rsp b)) 23 8 refl refl refl refl refl refl;
+        reads = λ b d. reads_of b d (λ e. e.fsk_packet_status) (Some (fsk_packet_status_rsp b)) 23 8 refl refl refl refl refl refl;
       })
       room rs morning
 
   -- ---- and where there is none
 
-  pub never-lora-rx-stats : ((day_on room rs morning).day.lora_rx_stats ≡ lastLoraRxStats.Never) ↔ (answers_to 9 12 0 rs ≡ [])
+  pub never-lora-rx-stats : ((day_on room rs morning).day.lora_rx_stats ≡ None) ↔ (answers_to 9 12 0 rs ≡ [])
   never-lora-rx-stats =
       rw last-lora-rx-stats
-      (newest-none (λ b. lastLoraRxStats.Last (lora_rx_stats_rsp b)) lastLoraRxStats.Never (λ b e. let z : ◌≡◌ {A = ℕ} 0 1 = cc in omega arith)
+      (newest-none (λ b. Some (lora_rx_stats_rsp b)) None (λ b e. let z : ◌≡◌ {A = ℕ} 0 1 = cc in omega arith)
       (answers_to 9 12 0 rs))
 
-  pub never-lora-packet-status : ((day_on room rs morning).day.lora_packet_status ≡ lastLoraPacketStatus.Never) ↔ (answers_to 10 8 0 rs ≡ [])
+  pub never-lora-packet-status : ((day_on room rs morning).day.lora_packet_status ≡ None) ↔ (answers_to 10 8 0 rs ≡ [])
   never-lora-packet-status =
       rw last-lora-packet-status
-      (newest-none (λ b. lastLoraPacketStatus.Last (lora_packet_status_rsp b)) lastLoraPacketStatus.Never (λ b e. let z : ◌≡◌ {A = ℕ} 0 1 = cc in omega arith)
+      (newest-none (λ b. Some (lora_packet_status_rsp b)) None (λ b e. let z : ◌≡◌ {A = ℕ} 0 1 = cc in omega arith)
       (answers_to 10 8 0 rs))
 
-  pub never-fsk-rx-stats : ((day_on room rs morning).day.fsk_rx_stats ≡ lastFskRxStats.Never) ↔ (answers_to 22 16 0 rs ≡ [])
+  pub never-fsk-rx-stats : ((day_on room rs morning).day.fsk_rx_stats ≡ None) ↔ (answers_to 22 16 0 rs ≡ [])
   never-fsk-rx-stats =
       rw last-fsk-rx-stats
-      (newest-none (λ b. lastFskRxStats.Last (fsk_rx_stats_rsp b)) lastFskRxStats.Never (λ b e. let z : ◌≡◌ {A = ℕ} 0 1 = cc in omega arith)
+      (newest-none (λ b. Some (fsk_rx_stats_rsp b)) None (λ b e. let z : ◌≡◌ {A = ℕ} 0 1 = cc in omega arith)
       (answers_to 22 16 0 rs))
 
-  pub never-fsk-packet-status : ((day_on room rs morning).day.fsk_packet_status ≡ lastFskPacketStatus.Never) ↔ (answers_to 23 8 0 rs ≡ [])
+  pub never-fsk-packet-status : ((day_on room rs morning).day.fsk_packet_status ≡ None) ↔ (answers_to 23 8 0 rs ≡ [])
   never-fsk-packet-status =
       rw last-fsk-packet-status
-      (newest-none (λ b. lastFskPacketStatus.Last (fsk_packet_status_rsp b)) lastFskPacketStatus.Never (λ b e. let z : ◌≡◌ {A = ℕ} 0 1 = cc in omega arith)
+      (newest-none (λ b. Some (fsk_packet_status_rsp b)) None (λ b e. let z : ◌≡◌ {A = ℕ} 0 1 = cc in omega arith)
       (answers_to 23 8 0 rs))
 
 -- ---- refusals by each number

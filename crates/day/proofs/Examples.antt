@@ -3,6 +3,7 @@
 use mathlib.Core.Path.{◌≡◌, refl}
 use mathlib.Core.List.{List, [], ◌∷◌}
 use Prim.Native.Nat.{ℕ}
+use Rattle.std.specs.Prelude.{Option, None, Some}
 use Rattle.frame.specs.Field.{part, mask, read, read_to}
 use Rattle.frame.specs.Layout.{tab, tab_from, byte_of, mask_of, reads}
 use Rattle.table.specs.Number.{narrow_of, narrows_of}
@@ -12,9 +13,8 @@ use Rattle.settings.specs.Settings.{slot_for, slot_of}
 use Rattle.decoder.specs.Decoding.{stray, lacking, judged, known, sought, answered, decode}
 use Rattle.book.specs.Plain.{put_on}
 use Rattle.cmd_lora.specs.Responses.{lora_rx_stats_rsp}
+use Rattle.cmd_lora.specs.declared.rsp.LoraRxStatsRsp.{LoraRxStatsRsp}
 use Rattle.day.specs.declared.Day.{Day}
-use Rattle.day.specs.declared.LastLoraRxStats.{LastLoraRxStats}
-use Rattle.day.specs.declared.LastLoraRxStats.TheVariants as lastLoraRxStats
 use Rattle.day.specs.Days.{accepted_one, bumped, fresh, missed, noted, on_received, plus, refused_one}
 use Rattle.day.specs.Steps.{Record, day_on, morning, on_sent, received, sent}
 
@@ -22,7 +22,7 @@ use Rattle.day.specs.Steps.{Record, day_on, morning, on_sent, received, sent}
 record Seen : Type 0 where
   latest : ℕ
   counts : List ℕ
-  reading : LastLoraRxStats
+  reading : Option LoraRxStatsRsp
 
 abbrev seen : Day → Seen
 seen d = record { latest = d.latest; counts = d.records ∷ d.accepted ∷ d.skipped ∷ d.refused; reading = d.lora_rx_stats }
@@ -36,9 +36,9 @@ answer = 0x04 ∷ 0x04 ∷ 0x00 ∷ 0x05 ∷ 0x00 ∷ 0x00 ∷ 0x00 ∷ 0x00 ∷
 -- request 9 and its answer; and with a command of one byte between them, which is refused by 1 and is the latest: the answer is skipped
 stray-between :
     (seen (day_on 169 (request ∷ received answer ∷ []) morning).day
-    ≡ record { latest = 9; counts = 2 ∷ 0 ∷ 0 ∷ 0 ∷ 0 ∷ 0 ∷ 0 ∷ 0 ∷ 0 ∷ 0 ∷ 0 ∷ 0 ∷ []; reading = lastLoraRxStats.Last (lora_rx_stats_rsp answer) })
+    ≡ record { latest = 9; counts = 2 ∷ 0 ∷ 0 ∷ 0 ∷ 0 ∷ 0 ∷ 0 ∷ 0 ∷ 0 ∷ 0 ∷ 0 ∷ 0 ∷ []; reading = Some (lora_rx_stats_rsp answer) })
     × (seen (day_on 169 (request ∷ sent (0xFF ∷ []) ∷ received answer ∷ []) morning).day
-    ≡ record { latest = 0; counts = 3 ∷ 0 ∷ 1 ∷ 0 ∷ 1 ∷ 0 ∷ 0 ∷ 0 ∷ 0 ∷ 0 ∷ 0 ∷ 0 ∷ []; reading = lastLoraRxStats.Never })
+    ≡ record { latest = 0; counts = 3 ∷ 0 ∷ 1 ∷ 0 ∷ 1 ∷ 0 ∷ 0 ∷ 0 ∷ 0 ∷ 0 ∷ 0 ∷ 0 ∷ []; reading = None })
 unfolding day_on on_sent on_received noted accepted_one refused_one missed bumped plus fresh put_on slot_for slot_of part mask read read_to tab tab_from byte_of mask_of
     reads narrow_of narrows_of lists rx_bw_codes is_in takes find stray lacking judged known sought answered decode
 stray-between = (refl, refl)

@@ -1,27 +1,20 @@
 -- A day's numbers: what an answer, and what a put's answer, make of the counts, the last readings and the latest command (REFERENCE, "Playback").
 -- Assumes nothing.
-use Rattle.std.specs.Prelude.{ℕ, ◌+◌, ◌-◌, ◌^◌, Bool, false, cond, not, List, eqb, leb, ltb, get_or, set, replicate}
+use Rattle.std.specs.Prelude.{ℕ, ◌+◌, ◌-◌, ◌^◌, Bool, false, cond, not, None, Some, Result, Ok, Err, List, eqb, leb, ltb, get_or, set, replicate}
 use Rattle.table.specs.Table.{settings}
 use Rattle.settings.specs.Settings.{slot_for}
+use Rattle.refusal.specs.declared.Refusal.{Refusal}
 use Rattle.refusal.specs.Numbers.{number_of}
 use Rattle.decoder.specs.Decoding.{Reading, reading, refuses}
 use Rattle.book.specs.declared.Answer.{Answer}
 use Rattle.book.specs.declared.Answer.TheVariants.{Done, Refused}
 use Rattle.cmd_lora.specs.Responses.{lora_rx_stats_read, lora_packet_status_read}
-use Rattle.cmd_lora.specs.declared.rsp.LoraRxStatsRead.{LoraRxStatsRead}
-use Rattle.cmd_lora.specs.declared.rsp.LoraRxStatsRead.TheVariants as lora_rx_stats
-use Rattle.cmd_lora.specs.declared.rsp.LoraPacketStatusRead.{LoraPacketStatusRead}
-use Rattle.cmd_lora.specs.declared.rsp.LoraPacketStatusRead.TheVariants as lora_packet_status
+use Rattle.cmd_lora.specs.declared.rsp.LoraRxStatsRsp.{LoraRxStatsRsp}
+use Rattle.cmd_lora.specs.declared.rsp.LoraPacketStatusRsp.{LoraPacketStatusRsp}
 use Rattle.cmd_fsk.specs.Responses.{fsk_rx_stats_read, fsk_packet_status_read}
-use Rattle.cmd_fsk.specs.declared.rsp.FskRxStatsRead.{FskRxStatsRead}
-use Rattle.cmd_fsk.specs.declared.rsp.FskRxStatsRead.TheVariants as fsk_rx_stats
-use Rattle.cmd_fsk.specs.declared.rsp.FskPacketStatusRead.{FskPacketStatusRead}
-use Rattle.cmd_fsk.specs.declared.rsp.FskPacketStatusRead.TheVariants as fsk_packet_status
+use Rattle.cmd_fsk.specs.declared.rsp.FskRxStatsRsp.{FskRxStatsRsp}
+use Rattle.cmd_fsk.specs.declared.rsp.FskPacketStatusRsp.{FskPacketStatusRsp}
 use Rattle.day.specs.declared.Day.{Day}
-use Rattle.day.specs.declared.LastLoraRxStats.TheVariants as lastLoraRxStats
-use Rattle.day.specs.declared.LastLoraPacketStatus.TheVariants as lastLoraPacketStatus
-use Rattle.day.specs.declared.LastFskRxStats.TheVariants as lastFskRxStats
-use Rattle.day.specs.declared.LastFskPacketStatus.TheVariants as lastFskPacketStatus
 
 -- ---- counts
 
@@ -42,10 +35,10 @@ unfoldable pub fresh : Day
 fresh =
     record {
       latest = 0;
-      lora_rx_stats = lastLoraRxStats.Never;
-      lora_packet_status = lastLoraPacketStatus.Never;
-      fsk_rx_stats = lastFskRxStats.Never;
-      fsk_packet_status = lastFskPacketStatus.Never;
+      lora_rx_stats = None;
+      lora_packet_status = None;
+      fsk_rx_stats = None;
+      fsk_packet_status = None;
       accepted = 0;
       refused = replicate 9 0;
       skipped = 0;
@@ -132,11 +125,11 @@ missed d =
     }
 
 -- The port's own reading of an answer takes the place of the one before; one of another length is no reading.
-abbrev pub heard_lora_rx_stats : LoraRxStatsRead → Day → Day
-heard_lora_rx_stats (lora_rx_stats.Rsp r) d =
+abbrev pub heard_lora_rx_stats : Result LoraRxStatsRsp Refusal → Day → Day
+heard_lora_rx_stats (Ok r) d =
     record {
       latest = d.latest;
-      lora_rx_stats = lastLoraRxStats.Last r;
+      lora_rx_stats = Some r;
       lora_packet_status = d.lora_packet_status;
       fsk_rx_stats = d.fsk_rx_stats;
       fsk_packet_status = d.fsk_packet_status;
@@ -145,14 +138,14 @@ heard_lora_rx_stats (lora_rx_stats.Rsp r) d =
       skipped = d.skipped;
       records = plus d.records 1;
     }
-heard_lora_rx_stats (lora_rx_stats.Refused x) d = missed d
+heard_lora_rx_stats (Err x) d = missed d
 
-abbrev pub heard_lora_packet_status : LoraPacketStatusRead → Day → Day
-heard_lora_packet_status (lora_packet_status.Rsp r) d =
+abbrev pub heard_lora_packet_status : Result LoraPacketStatusRsp Refusal → Day → Day
+heard_lora_packet_status (Ok r) d =
     record {
       latest = d.latest;
       lora_rx_stats = d.lora_rx_stats;
-      lora_packet_status = lastLoraPacketStatus.Last r;
+      lora_packet_status = Some r;
       fsk_rx_stats = d.fsk_rx_stats;
       fsk_packet_status = d.fsk_packet_status;
       accepted = d.accepted;
@@ -160,37 +153,37 @@ heard_lora_packet_status (lora_packet_status.Rsp r) d =
       skipped = d.skipped;
       records = plus d.records 1;
     }
-heard_lora_packet_status (lora_packet_status.Refused x) d = missed d
+heard_lora_packet_status (Err x) d = missed d
 
-abbrev pub heard_fsk_rx_stats : FskRxStatsRead → Day → Day
-heard_fsk_rx_stats (fsk_rx_stats.Rsp r) d =
+abbrev pub heard_fsk_rx_stats : Result FskRxStatsRsp Refusal → Day → Day
+heard_fsk_rx_stats (Ok r) d =
     record {
       latest = d.latest;
       lora_rx_stats = d.lora_rx_stats;
       lora_packet_status = d.lora_packet_status;
-      fsk_rx_stats = lastFskRxStats.Last r;
+      fsk_rx_stats = Some r;
       fsk_packet_status = d.fsk_packet_status;
       accepted = d.accepted;
       refused = d.refused;
       skipped = d.skipped;
       records = plus d.records 1;
     }
-heard_fsk_rx_stats (fsk_rx_stats.Refused x) d = missed d
+heard_fsk_rx_stats (Err x) d = missed d
 
-abbrev pub heard_fsk_packet_status : FskPacketStatusRead → Day → Day
-heard_fsk_packet_status (fsk_packet_status.Rsp r) d =
+abbrev pub heard_fsk_packet_status : Result FskPacketStatusRsp Refusal → Day → Day
+heard_fsk_packet_status (Ok r) d =
     record {
       latest = d.latest;
       lora_rx_stats = d.lora_rx_stats;
       lora_packet_status = d.lora_packet_status;
       fsk_rx_stats = d.fsk_rx_stats;
-      fsk_packet_status = lastFskPacketStatus.Last r;
+      fsk_packet_status = Some r;
       accepted = d.accepted;
       refused = d.refused;
       skipped = d.skipped;
       records = plus d.records 1;
     }
-heard_fsk_packet_status (fsk_packet_status.Refused x) d = missed d
+heard_fsk_packet_status (Err x) d = missed d
 
 -- An answer is read as that of the latest command, if it was one of the requests 9, 10, 22 and 23. It does not use the command up.
 unfoldable pub on_received : List ℕ → Day → Day

@@ -8,44 +8,20 @@ ghost use Rattle.day.specs.Days.{heard_lora_rx_stats, heard_lora_packet_status, 
 ghost use Rattle.day.specs.Steps.{sent_day, sent_bytes};
 
 use book::Answer;
-use cmd_fsk::rsp::{FskPacketStatusRead, FskPacketStatusRsp, FskRxStatsRead, FskRxStatsRsp};
-use cmd_lora::rsp::{LoraPacketStatusRead, LoraPacketStatusRsp, LoraRxStatsRead, LoraRxStatsRsp};
+use cmd_fsk::rsp::{FskPacketStatusRsp, FskRxStatsRsp};
+use cmd_lora::rsp::{LoraPacketStatusRsp, LoraRxStatsRsp};
+use refusal::Refusal;
 use settings::slot_for;
 
-// The last reading of each of the four requests, if there was one.
-#[derive(Clone, Copy)]
-pub enum LastLoraRxStats {
-    Never,
-    Last(LoraRxStatsRsp),
-}
-
-#[derive(Clone, Copy)]
-pub enum LastLoraPacketStatus {
-    Never,
-    Last(LoraPacketStatusRsp),
-}
-
-#[derive(Clone, Copy)]
-pub enum LastFskRxStats {
-    Never,
-    Last(FskRxStatsRsp),
-}
-
-#[derive(Clone, Copy)]
-pub enum LastFskPacketStatus {
-    Never,
-    Last(FskPacketStatusRsp),
-}
-
 // A day's numbers; its list of frames is in the book. `latest` is the kind of the latest command, 0 where it does not decode or there was none;
-// `refused` has a count for each number from 0 to 8.
+// each request has its last reading, if there was one; `refused` has a count for each number from 0 to 8.
 #[derive(Clone, Copy)]
 pub struct Day {
     pub latest: u64,
-    pub lora_rx_stats: LastLoraRxStats,
-    pub lora_packet_status: LastLoraPacketStatus,
-    pub fsk_rx_stats: LastFskRxStats,
-    pub fsk_packet_status: LastFskPacketStatus,
+    pub lora_rx_stats: Option<LoraRxStatsRsp>,
+    pub lora_packet_status: Option<LoraPacketStatusRsp>,
+    pub fsk_rx_stats: Option<FskRxStatsRsp>,
+    pub fsk_packet_status: Option<FskPacketStatusRsp>,
     pub accepted: u64,
     pub refused: [u64; 9],
     pub skipped: u64,
@@ -58,10 +34,10 @@ pub fn fresh() -> Day
 {
     Day {
         latest: 0,
-        lora_rx_stats: LastLoraRxStats::Never,
-        lora_packet_status: LastLoraPacketStatus::Never,
-        fsk_rx_stats: LastFskRxStats::Never,
-        fsk_packet_status: LastFskPacketStatus::Never,
+        lora_rx_stats: None,
+        lora_packet_status: None,
+        fsk_rx_stats: None,
+        fsk_packet_status: None,
         accepted: 0,
         refused: [0u64; 9],
         skipped: 0,
@@ -92,128 +68,70 @@ fn miss(day: Day) -> Day
     next
 }
 
-fn hear_lora_rx_stats(day: Day, read: LoraRxStatsRead) -> Day
+fn hear_lora_rx_stats(day: Day, read: Result<LoraRxStatsRsp, Refusal>) -> Day
     ensures { result ≡ heard_lora_rx_stats read day }
 {
-    match read {
-        LoraRxStatsRead::Rsp(rsp) => {
-            let lora_packet_status = day.lora_packet_status;
-            let fsk_rx_stats = day.fsk_rx_stats;
-            let fsk_packet_status = day.fsk_packet_status;
-            let refused = day.refused;
-            Day {
-                latest: day.latest,
-                lora_rx_stats: LastLoraRxStats::Last(rsp),
-                lora_packet_status,
-                fsk_rx_stats,
-                fsk_packet_status,
-                accepted: day.accepted,
-                refused,
-                skipped: day.skipped,
-                records: plus(day.records, 1),
-            }
-        }
-        LoraRxStatsRead::Refused(_) => miss(day),
+    let Ok(rsp) = read else {
+        return miss(day);
+    };
+    Day {
+        lora_rx_stats: Some(rsp),
+        records: plus(day.records, 1),
+        ..day
     }
 }
 
-fn hear_lora_packet_status(day: Day, read: LoraPacketStatusRead) -> Day
+fn hear_lora_packet_status(day: Day, read: Result<LoraPacketStatusRsp, Refusal>) -> Day
     ensures { result ≡ heard_lora_packet_status read day }
 {
-    match read {
-        LoraPacketStatusRead::Rsp(rsp) => {
-            let lora_rx_stats = day.lora_rx_stats;
-            let fsk_rx_stats = day.fsk_rx_stats;
-            let fsk_packet_status = day.fsk_packet_status;
-            let refused = day.refused;
-            Day {
-                latest: day.latest,
-                lora_rx_stats,
-                lora_packet_status: LastLoraPacketStatus::Last(rsp),
-                fsk_rx_stats,
-                fsk_packet_status,
-                accepted: day.accepted,
-                refused,
-                skipped: day.skipped,
-                records: plus(day.records, 1),
-            }
-        }
-        LoraPacketStatusRead::Refused(_) => miss(day),
+    let Ok(rsp) = read else {
+        return miss(day);
+    };
+    Day {
+        lora_packet_status: Some(rsp),
+        records: plus(day.records, 1),
+        ..day
     }
 }
 
-fn hear_fsk_rx_stats(day: Day, read: FskRxStatsRead) -> Day
+fn hear_fsk_rx_stats(day: Day, read: Result<FskRxStatsRsp, Refusal>) -> Day
     ensures { result ≡ heard_fsk_rx_stats read day }
 {
-    match read {
-        FskRxStatsRead::Rsp(rsp) => {
-            let lora_rx_stats = day.lora_rx_stats;
-            let lora_packet_status = day.lora_packet_status;
-            let fsk_packet_status = day.fsk_packet_status;
-            let refused = day.refused;
-            Day {
-                latest: day.latest,
-                lora_rx_stats,
-                lora_packet_status,
-                fsk_rx_stats: LastFskRxStats::Last(rsp),
-                fsk_packet_status,
-                accepted: day.accepted,
-                refused,
-                skipped: day.skipped,
-                records: plus(day.records, 1),
-            }
-        }
-        FskRxStatsRead::Refused(_) => miss(day),
+    let Ok(rsp) = read else {
+        return miss(day);
+    };
+    Day {
+        fsk_rx_stats: Some(rsp),
+        records: plus(day.records, 1),
+        ..day
     }
 }
 
-fn hear_fsk_packet_status(day: Day, read: FskPacketStatusRead) -> Day
+fn hear_fsk_packet_status(day: Day, read: Result<FskPacketStatusRsp, Refusal>) -> Day
     ensures { result ≡ heard_fsk_packet_status read day }
 {
-    match read {
-        FskPacketStatusRead::Rsp(rsp) => {
-            let lora_rx_stats = day.lora_rx_stats;
-            let lora_packet_status = day.lora_packet_status;
-            let fsk_rx_stats = day.fsk_rx_stats;
-            let refused = day.refused;
-            Day {
-                latest: day.latest,
-                lora_rx_stats,
-                lora_packet_status,
-                fsk_rx_stats,
-                fsk_packet_status: LastFskPacketStatus::Last(rsp),
-                accepted: day.accepted,
-                refused,
-                skipped: day.skipped,
-                records: plus(day.records, 1),
-            }
-        }
-        FskPacketStatusRead::Refused(_) => miss(day),
+    let Ok(rsp) = read else {
+        return miss(day);
+    };
+    Day {
+        fsk_packet_status: Some(rsp),
+        records: plus(day.records, 1),
+        ..day
     }
 }
 
 // An answer, read as that of the latest command.
+#[tactic(auto, unfolding(crate::specs::Days::on_received))]
 pub fn receive(day: Day, bytes: &[u8]) -> Day
     ensures { result ≡ on_received bytes.now day }
 {
-    let latest = day.latest;
-    if latest == 9 {
-        let read = LoraRxStatsRsp::from_slice(bytes);
-        return hear_lora_rx_stats(day, read);
+    match day.latest {
+        9 => hear_lora_rx_stats(day, LoraRxStatsRsp::from_slice(bytes)),
+        10 => hear_lora_packet_status(day, LoraPacketStatusRsp::from_slice(bytes)),
+        22 => hear_fsk_rx_stats(day, FskRxStatsRsp::from_slice(bytes)),
+        23 => hear_fsk_packet_status(day, FskPacketStatusRsp::from_slice(bytes)),
+        _ => miss(day),
     }
-    if latest == 10 {
-        let read = LoraPacketStatusRsp::from_slice(bytes);
-        return hear_lora_packet_status(day, read);
-    }
-    if latest == 22 {
-        let read = FskRxStatsRsp::from_slice(bytes);
-        return hear_fsk_rx_stats(day, read);
-    }
-    if latest == 23 {
-        let read = FskPacketStatusRsp::from_slice(bytes);
-        return hear_fsk_packet_status(day, read);
-    }
-    miss(day)
 }
 
 // ---- commands

@@ -2,7 +2,6 @@
 ghost use Rattle.std.specs.Prelude.{◌≡◌};
 ghost use Rattle.playback.specs.Plays.{plays};
 ghost use Rattle.hoardbutton.specs.Plays.{refusal_in, place_in, day_c};
-ghost use Rattle.hoardbutton.specs.Plays.{has_lora_rx_stats, has_lora_packet_status, has_fsk_rx_stats, has_fsk_packet_status};
 ghost use Rattle.hoardbutton.specs.Plays.{last_lora_rx_stats_c, last_lora_packet_status_c, last_fsk_rx_stats_c, last_fsk_packet_status_c};
 
 use crate::radio::{
@@ -11,7 +10,8 @@ use crate::radio::{
     lora_packet_status_of, lora_rx_stats_none, lora_rx_stats_of,
 };
 use book::Answer;
-use day::{LastFskPacketStatus, LastFskRxStats, LastLoraPacketStatus, LastLoraRxStats};
+use cmd_fsk::rsp::{FskPacketStatusRsp, FskRxStatsRsp};
+use cmd_lora::rsp::{LoraPacketStatusRsp, LoraRxStatsRsp};
 use playback::Played;
 
 // A day: the refusal with its place, the counts, and the last reading of each request, zeros where there is none.
@@ -54,75 +54,39 @@ fn place_in(answer: Answer) -> u64
 
 // ---- the last readings
 
-fn has_lora_rx_stats(last: LastLoraRxStats) -> bool
-    ensures { result ≡ has_lora_rx_stats last }
-{
-    match last {
-        LastLoraRxStats::Never => false,
-        LastLoraRxStats::Last(_) => true,
-    }
-}
-
-fn last_lora_rx_stats(last: LastLoraRxStats) -> HbLoraRxStats
+fn last_lora_rx_stats(last: Option<LoraRxStatsRsp>) -> HbLoraRxStats
     ensures { result ≡ last_lora_rx_stats_c last }
 {
     match last {
-        LastLoraRxStats::Never => lora_rx_stats_none(0),
-        LastLoraRxStats::Last(rsp) => lora_rx_stats_of(rsp),
+        None => lora_rx_stats_none(0),
+        Some(rsp) => lora_rx_stats_of(rsp),
     }
 }
 
-fn has_lora_packet_status(last: LastLoraPacketStatus) -> bool
-    ensures { result ≡ has_lora_packet_status last }
-{
-    match last {
-        LastLoraPacketStatus::Never => false,
-        LastLoraPacketStatus::Last(_) => true,
-    }
-}
-
-fn last_lora_packet_status(last: LastLoraPacketStatus) -> HbLoraPacketStatus
+fn last_lora_packet_status(last: Option<LoraPacketStatusRsp>) -> HbLoraPacketStatus
     ensures { result ≡ last_lora_packet_status_c last }
 {
     match last {
-        LastLoraPacketStatus::Never => lora_packet_status_none(0),
-        LastLoraPacketStatus::Last(rsp) => lora_packet_status_of(rsp),
+        None => lora_packet_status_none(0),
+        Some(rsp) => lora_packet_status_of(rsp),
     }
 }
 
-fn has_fsk_rx_stats(last: LastFskRxStats) -> bool
-    ensures { result ≡ has_fsk_rx_stats last }
-{
-    match last {
-        LastFskRxStats::Never => false,
-        LastFskRxStats::Last(_) => true,
-    }
-}
-
-fn last_fsk_rx_stats(last: LastFskRxStats) -> HbFskRxStats
+fn last_fsk_rx_stats(last: Option<FskRxStatsRsp>) -> HbFskRxStats
     ensures { result ≡ last_fsk_rx_stats_c last }
 {
     match last {
-        LastFskRxStats::Never => fsk_rx_stats_none(0),
-        LastFskRxStats::Last(rsp) => fsk_rx_stats_of(rsp),
+        None => fsk_rx_stats_none(0),
+        Some(rsp) => fsk_rx_stats_of(rsp),
     }
 }
 
-fn has_fsk_packet_status(last: LastFskPacketStatus) -> bool
-    ensures { result ≡ has_fsk_packet_status last }
-{
-    match last {
-        LastFskPacketStatus::Never => false,
-        LastFskPacketStatus::Last(_) => true,
-    }
-}
-
-fn last_fsk_packet_status(last: LastFskPacketStatus) -> HbFskPacketStatus
+fn last_fsk_packet_status(last: Option<FskPacketStatusRsp>) -> HbFskPacketStatus
     ensures { result ≡ last_fsk_packet_status_c last }
 {
     match last {
-        LastFskPacketStatus::Never => fsk_packet_status_none(0),
-        LastFskPacketStatus::Last(rsp) => fsk_packet_status_of(rsp),
+        None => fsk_packet_status_none(0),
+        Some(rsp) => fsk_packet_status_of(rsp),
     }
 }
 
@@ -134,10 +98,6 @@ fn told(played: Played) -> HbDay
     let answer = played.answer;
     let day = played.day;
     let refused = day.refused;
-    let lora_rx_stats = day.lora_rx_stats;
-    let lora_packet_status = day.lora_packet_status;
-    let fsk_rx_stats = day.fsk_rx_stats;
-    let fsk_packet_status = day.fsk_packet_status;
     HbDay {
         refusal: refusal_in(answer),
         place: place_in(answer),
@@ -145,14 +105,14 @@ fn told(played: Played) -> HbDay
         accepted: day.accepted,
         skipped: day.skipped,
         refused,
-        has_lora_rx_stats: has_lora_rx_stats(lora_rx_stats),
-        has_lora_packet_status: has_lora_packet_status(lora_packet_status),
-        has_fsk_rx_stats: has_fsk_rx_stats(fsk_rx_stats),
-        has_fsk_packet_status: has_fsk_packet_status(fsk_packet_status),
-        lora_rx_stats: last_lora_rx_stats(lora_rx_stats),
-        lora_packet_status: last_lora_packet_status(lora_packet_status),
-        fsk_rx_stats: last_fsk_rx_stats(fsk_rx_stats),
-        fsk_packet_status: last_fsk_packet_status(fsk_packet_status),
+        has_lora_rx_stats: day.lora_rx_stats.is_some(),
+        has_lora_packet_status: day.lora_packet_status.is_some(),
+        has_fsk_rx_stats: day.fsk_rx_stats.is_some(),
+        has_fsk_packet_status: day.fsk_packet_status.is_some(),
+        lora_rx_stats: last_lora_rx_stats(day.lora_rx_stats),
+        lora_packet_status: last_lora_packet_status(day.lora_packet_status),
+        fsk_rx_stats: last_fsk_rx_stats(day.fsk_rx_stats),
+        fsk_packet_status: last_fsk_packet_status(day.fsk_packet_status),
     }
 }
 

@@ -1,5 +1,5 @@
 // What the radio sends: status, interrupts, and the seven responses. A response of another length is refused (7).
-ghost use Rattle.std.specs.Prelude.{◌≡◌};
+ghost use Rattle.std.specs.Prelude.{◌≡◌, Ok};
 ghost use Rattle.status.specs.Codes.{cmd_code, reset_code, mode_code};
 ghost use Rattle.status.specs.Words.{status_of, intr_of, cmd_in, reset_in, mode_in};
 ghost use Rattle.cmd_lora.specs.Responses.{lora_rx_stats_read, lora_packet_status_read};
@@ -9,11 +9,9 @@ ghost use Rattle.hoardbutton.specs.Radio.{status_c, lora_rx_stats_c, lora_packet
 ghost use Rattle.hoardbutton.specs.Radio.{lora_rx_stats_none, lora_packet_status_none, fsk_rx_stats_none, fsk_packet_status_none};
 
 use crate::answers::low;
-use cmd_common::rsp::{
-    CcaResultRead, CcaResultRsp, RssiInstRead, RssiInstRsp, TimestampValueRead, TimestampValueRsp,
-};
-use cmd_fsk::rsp::{FskPacketStatusRead, FskPacketStatusRsp, FskRxStatsRead, FskRxStatsRsp};
-use cmd_lora::rsp::{LoraPacketStatusRead, LoraPacketStatusRsp, LoraRxStatsRead, LoraRxStatsRsp};
+use cmd_common::rsp::{CcaResultRsp, RssiInstRsp, TimestampValueRsp};
+use cmd_fsk::rsp::{FskPacketStatusRsp, FskRxStatsRsp};
+use cmd_lora::rsp::{LoraPacketStatusRsp, LoraRxStatsRsp};
 use status::{Intr, Status};
 
 // The status word and what its bits say (REFERENCE, "Status and interrupts").
@@ -75,7 +73,7 @@ pub extern "C" fn hb_intr(bytes: &[u8]) -> u32
 }
 
 #[repr(C)]
-#[derive(Clone, Copy)]
+#[derive(Clone, Copy, Default)]
 pub struct HbLoraRxStats {
     pub refusal: u32,
     pub status: u16,
@@ -88,7 +86,7 @@ pub struct HbLoraRxStats {
 
 // A reading, and none beside a refusal.
 pub(crate) fn lora_rx_stats_of(rsp: LoraRxStatsRsp) -> HbLoraRxStats
-    ensures { result ≡ lora_rx_stats_c (LoraRxStatsRead.Rsp rsp) }
+    ensures { result ≡ lora_rx_stats_c (Ok rsp) }
 {
     HbLoraRxStats {
         refusal: 0,
@@ -106,12 +104,7 @@ pub(crate) fn lora_rx_stats_none(refusal: u32) -> HbLoraRxStats
 {
     HbLoraRxStats {
         refusal,
-        status: 0,
-        pkt_rx: 0,
-        crc_error: 0,
-        header_error: 0,
-        detection: 0,
-        false_sync: 0,
+        ..HbLoraRxStats::default()
     }
 }
 
@@ -119,15 +112,14 @@ pub(crate) fn lora_rx_stats_none(refusal: u32) -> HbLoraRxStats
 pub extern "C" fn hb_lora_rx_stats(bytes: &[u8]) -> HbLoraRxStats
     ensures { result ≡ lora_rx_stats_c (lora_rx_stats_read bytes.now) }
 {
-    let read = LoraRxStatsRsp::from_slice(bytes);
-    match read {
-        LoraRxStatsRead::Rsp(rsp) => lora_rx_stats_of(rsp),
-        LoraRxStatsRead::Refused(why) => lora_rx_stats_none(why.number()),
+    match LoraRxStatsRsp::from_slice(bytes) {
+        Ok(rsp) => lora_rx_stats_of(rsp),
+        Err(why) => lora_rx_stats_none(why.number()),
     }
 }
 
 #[repr(C)]
-#[derive(Clone, Copy)]
+#[derive(Clone, Copy, Default)]
 pub struct HbLoraPacketStatus {
     pub refusal: u32,
     pub status: u16,
@@ -142,7 +134,7 @@ pub struct HbLoraPacketStatus {
 
 // A reading, and none beside a refusal.
 pub(crate) fn lora_packet_status_of(rsp: LoraPacketStatusRsp) -> HbLoraPacketStatus
-    ensures { result ≡ lora_packet_status_c (LoraPacketStatusRead.Rsp rsp) }
+    ensures { result ≡ lora_packet_status_c (Ok rsp) }
 {
     HbLoraPacketStatus {
         refusal: 0,
@@ -162,14 +154,7 @@ pub(crate) fn lora_packet_status_none(refusal: u32) -> HbLoraPacketStatus
 {
     HbLoraPacketStatus {
         refusal,
-        status: 0,
-        crc: false,
-        coding_rate: 0,
-        pkt_length: 0,
-        snr_pkt: 0,
-        rssi_pkt: 0,
-        rssi_signal_pkt: 0,
-        detector: 0,
+        ..HbLoraPacketStatus::default()
     }
 }
 
@@ -177,15 +162,14 @@ pub(crate) fn lora_packet_status_none(refusal: u32) -> HbLoraPacketStatus
 pub extern "C" fn hb_lora_packet_status(bytes: &[u8]) -> HbLoraPacketStatus
     ensures { result ≡ lora_packet_status_c (lora_packet_status_read bytes.now) }
 {
-    let read = LoraPacketStatusRsp::from_slice(bytes);
-    match read {
-        LoraPacketStatusRead::Rsp(rsp) => lora_packet_status_of(rsp),
-        LoraPacketStatusRead::Refused(why) => lora_packet_status_none(why.number()),
+    match LoraPacketStatusRsp::from_slice(bytes) {
+        Ok(rsp) => lora_packet_status_of(rsp),
+        Err(why) => lora_packet_status_none(why.number()),
     }
 }
 
 #[repr(C)]
-#[derive(Clone, Copy)]
+#[derive(Clone, Copy, Default)]
 pub struct HbFskRxStats {
     pub refusal: u32,
     pub status: u16,
@@ -200,7 +184,7 @@ pub struct HbFskRxStats {
 
 // A reading, and none beside a refusal.
 pub(crate) fn fsk_rx_stats_of(rsp: FskRxStatsRsp) -> HbFskRxStats
-    ensures { result ≡ fsk_rx_stats_c (FskRxStatsRead.Rsp rsp) }
+    ensures { result ≡ fsk_rx_stats_c (Ok rsp) }
 {
     HbFskRxStats {
         refusal: 0,
@@ -220,14 +204,7 @@ pub(crate) fn fsk_rx_stats_none(refusal: u32) -> HbFskRxStats
 {
     HbFskRxStats {
         refusal,
-        status: 0,
-        pkt_rx: 0,
-        crc_error: 0,
-        len_error: 0,
-        pbl_det: 0,
-        sync_ok: 0,
-        sync_fail: 0,
-        timeout: 0,
+        ..HbFskRxStats::default()
     }
 }
 
@@ -235,15 +212,14 @@ pub(crate) fn fsk_rx_stats_none(refusal: u32) -> HbFskRxStats
 pub extern "C" fn hb_fsk_rx_stats(bytes: &[u8]) -> HbFskRxStats
     ensures { result ≡ fsk_rx_stats_c (fsk_rx_stats_read bytes.now) }
 {
-    let read = FskRxStatsRsp::from_slice(bytes);
-    match read {
-        FskRxStatsRead::Rsp(rsp) => fsk_rx_stats_of(rsp),
-        FskRxStatsRead::Refused(why) => fsk_rx_stats_none(why.number()),
+    match FskRxStatsRsp::from_slice(bytes) {
+        Ok(rsp) => fsk_rx_stats_of(rsp),
+        Err(why) => fsk_rx_stats_none(why.number()),
     }
 }
 
 #[repr(C)]
-#[derive(Clone, Copy)]
+#[derive(Clone, Copy, Default)]
 pub struct HbFskPacketStatus {
     pub refusal: u32,
     pub status: u16,
@@ -257,7 +233,7 @@ pub struct HbFskPacketStatus {
 
 // A reading, and none beside a refusal.
 pub(crate) fn fsk_packet_status_of(rsp: FskPacketStatusRsp) -> HbFskPacketStatus
-    ensures { result ≡ fsk_packet_status_c (FskPacketStatusRead.Rsp rsp) }
+    ensures { result ≡ fsk_packet_status_c (Ok rsp) }
 {
     HbFskPacketStatus {
         refusal: 0,
@@ -276,13 +252,7 @@ pub(crate) fn fsk_packet_status_none(refusal: u32) -> HbFskPacketStatus
 {
     HbFskPacketStatus {
         refusal,
-        status: 0,
-        pkt_len: 0,
-        rssi_avg: 0,
-        rssi_sync: 0,
-        addr_match_bcast: false,
-        addr_match_node: false,
-        lqi: 0,
+        ..HbFskPacketStatus::default()
     }
 }
 
@@ -290,15 +260,14 @@ pub(crate) fn fsk_packet_status_none(refusal: u32) -> HbFskPacketStatus
 pub extern "C" fn hb_fsk_packet_status(bytes: &[u8]) -> HbFskPacketStatus
     ensures { result ≡ fsk_packet_status_c (fsk_packet_status_read bytes.now) }
 {
-    let read = FskPacketStatusRsp::from_slice(bytes);
-    match read {
-        FskPacketStatusRead::Rsp(rsp) => fsk_packet_status_of(rsp),
-        FskPacketStatusRead::Refused(why) => fsk_packet_status_none(why.number()),
+    match FskPacketStatusRsp::from_slice(bytes) {
+        Ok(rsp) => fsk_packet_status_of(rsp),
+        Err(why) => fsk_packet_status_none(why.number()),
     }
 }
 
 #[repr(C)]
-#[derive(Clone, Copy)]
+#[derive(Clone, Copy, Default)]
 pub struct HbRssiInst {
     pub refusal: u32,
     pub status: u16,
@@ -309,23 +278,21 @@ pub struct HbRssiInst {
 pub extern "C" fn hb_rssi_inst(bytes: &[u8]) -> HbRssiInst
     ensures { result ≡ rssi_inst_c (rssi_inst_read bytes.now) }
 {
-    let read = RssiInstRsp::from_slice(bytes);
-    match read {
-        RssiInstRead::Rsp(rsp) => HbRssiInst {
+    match RssiInstRsp::from_slice(bytes) {
+        Ok(rsp) => HbRssiInst {
             refusal: 0,
             status: rsp.status.0,
             rssi: rsp.rssi.0,
         },
-        RssiInstRead::Refused(why) => HbRssiInst {
+        Err(why) => HbRssiInst {
             refusal: why.number(),
-            status: 0,
-            rssi: 0,
+            ..HbRssiInst::default()
         },
     }
 }
 
 #[repr(C)]
-#[derive(Clone, Copy)]
+#[derive(Clone, Copy, Default)]
 pub struct HbTimestampValue {
     pub refusal: u32,
     pub status: u16,
@@ -336,23 +303,21 @@ pub struct HbTimestampValue {
 pub extern "C" fn hb_timestamp_value(bytes: &[u8]) -> HbTimestampValue
     ensures { result ≡ timestamp_value_c (timestamp_value_read bytes.now) }
 {
-    let read = TimestampValueRsp::from_slice(bytes);
-    match read {
-        TimestampValueRead::Rsp(rsp) => HbTimestampValue {
+    match TimestampValueRsp::from_slice(bytes) {
+        Ok(rsp) => HbTimestampValue {
             refusal: 0,
             status: rsp.status.0,
             timestamp: rsp.timestamp,
         },
-        TimestampValueRead::Refused(why) => HbTimestampValue {
+        Err(why) => HbTimestampValue {
             refusal: why.number(),
-            status: 0,
-            timestamp: 0,
+            ..HbTimestampValue::default()
         },
     }
 }
 
 #[repr(C)]
-#[derive(Clone, Copy)]
+#[derive(Clone, Copy, Default)]
 pub struct HbCcaResult {
     pub refusal: u32,
     pub status: u16,
@@ -365,21 +330,17 @@ pub struct HbCcaResult {
 pub extern "C" fn hb_cca_result(bytes: &[u8]) -> HbCcaResult
     ensures { result ≡ cca_result_c (cca_result_read bytes.now) }
 {
-    let read = CcaResultRsp::from_slice(bytes);
-    match read {
-        CcaResultRead::Rsp(rsp) => HbCcaResult {
+    match CcaResultRsp::from_slice(bytes) {
+        Ok(rsp) => HbCcaResult {
             refusal: 0,
             status: rsp.status.0,
             rssi_min: rsp.rssi_min.0,
             rssi_max: rsp.rssi_max.0,
             rssi_avg: rsp.rssi_avg.0,
         },
-        CcaResultRead::Refused(why) => HbCcaResult {
+        Err(why) => HbCcaResult {
             refusal: why.number(),
-            status: 0,
-            rssi_min: 0,
-            rssi_max: 0,
-            rssi_avg: 0,
+            ..HbCcaResult::default()
         },
     }
 }

@@ -11,6 +11,7 @@ use mathlib.Core.Option.{Option, none, some}
 use Prim.Native.Nat.{ℕ}
 use lib.IntN.{nat_abs}
 use lib.ListN.{replicate}
+use Rattle.std.specs.Prelude.{Option as Last, None, Some}
 use Rattle.refusal.specs.declared.Refusal.TheVariants.{TraceFault}
 use Rattle.frame.specs.Field.{part, mask, read, read_to, sound}
 use Rattle.frame.specs.Layout.{put, tab, tab_from, byte_of, mask_of, reads}
@@ -26,16 +27,12 @@ use Rattle.book.specs.declared.Answer.{Answer}
 use Rattle.book.specs.declared.Answer.TheVariants.{Done, Refused}
 use Rattle.book.specs.Plain.{placed, put_on, seat, swap_in}
 use Rattle.book.specs.Book.{made}
+use Rattle.cmd_lora.specs.declared.rsp.LoraRxStatsRsp.{LoraRxStatsRsp}
+use Rattle.cmd_lora.specs.declared.rsp.LoraPacketStatusRsp.{LoraPacketStatusRsp}
+use Rattle.cmd_fsk.specs.declared.rsp.FskRxStatsRsp.{FskRxStatsRsp}
+use Rattle.cmd_fsk.specs.declared.rsp.FskPacketStatusRsp.{FskPacketStatusRsp}
 use Rattle.cmd_lora.specs.Responses.{lora_packet_status_rsp, lora_rx_stats_rsp, snr}
 use Rattle.cmd_fsk.specs.Responses.{fsk_packet_status_rsp, fsk_rx_stats_rsp}
-use Rattle.day.specs.declared.LastLoraRxStats.{LastLoraRxStats}
-use Rattle.day.specs.declared.LastLoraRxStats.TheVariants as lastLoraRxStats
-use Rattle.day.specs.declared.LastLoraPacketStatus.{LastLoraPacketStatus}
-use Rattle.day.specs.declared.LastLoraPacketStatus.TheVariants as lastLoraPacketStatus
-use Rattle.day.specs.declared.LastFskRxStats.{LastFskRxStats}
-use Rattle.day.specs.declared.LastFskRxStats.TheVariants as lastFskRxStats
-use Rattle.day.specs.declared.LastFskPacketStatus.{LastFskPacketStatus}
-use Rattle.day.specs.declared.LastFskPacketStatus.TheVariants as lastFskPacketStatus
 use Rattle.day.specs.Days.{accepted_one, bumped, fresh, missed, noted, on_received, plus, refused_one}
 use Rattle.day.specs.Steps.{day_on, morning, on_sent}
 use Rattle.playback.specs.declared.Stage.TheVariants.{Header}
@@ -58,23 +55,23 @@ record Seen : Type 0 where
   frames : List (List ℕ)
   stop : Option ℕ
 
-lora-rx-stats : LastLoraRxStats → List ℕ
-lora-rx-stats lastLoraRxStats.Never = []
-lora-rx-stats (lastLoraRxStats.Last r) = r.pkt_rx ∷ r.crc_error ∷ r.header_error ∷ r.detection ∷ r.false_sync ∷ []
+lora-rx-stats : Last LoraRxStatsRsp → List ℕ
+lora-rx-stats None = []
+lora-rx-stats (Some r) = r.pkt_rx ∷ r.crc_error ∷ r.header_error ∷ r.detection ∷ r.false_sync ∷ []
 
-lora-packet-status : LastLoraPacketStatus → List ℕ
-lora-packet-status lastLoraPacketStatus.Never = []
-lora-packet-status (lastLoraPacketStatus.Last r) =
+lora-packet-status : Last LoraPacketStatusRsp → List ℕ
+lora-packet-status None = []
+lora-packet-status (Some r) =
     cond r.crc 1 0 ∷ r.coding_rate ∷ r.pkt_length ∷ nat_abs r.snr_pkt.0 ∷ r.rssi_pkt.0 ∷ r.rssi_signal_pkt.0 ∷ r.detector ∷ []
 
-fsk-rx-stats : LastFskRxStats → List ℕ
-fsk-rx-stats lastFskRxStats.Never = []
-fsk-rx-stats (lastFskRxStats.Last r) =
+fsk-rx-stats : Last FskRxStatsRsp → List ℕ
+fsk-rx-stats None = []
+fsk-rx-stats (Some r) =
     r.pkt_rx ∷ r.crc_error ∷ r.len_error ∷ r.pbl_det ∷ r.sync_ok ∷ r.sync_fail ∷ r.timeout ∷ []
 
-fsk-packet-status : LastFskPacketStatus → List ℕ
-fsk-packet-status lastFskPacketStatus.Never = []
-fsk-packet-status (lastFskPacketStatus.Last r) =
+fsk-packet-status : Last FskPacketStatusRsp → List ℕ
+fsk-packet-status None = []
+fsk-packet-status (Some r) =
     r.pkt_len ∷ r.rssi_avg.0 ∷ r.rssi_sync.0 ∷ cond r.addr_match_bcast 1 0 ∷ cond r.addr_match_node 1 0 ∷ r.lqi ∷ []
 
 abbrev seen : Run → Seen

@@ -25,6 +25,7 @@ use native.Mathlib.Omega.{arith}
 use lib.Dec.{leb, ltb}
 use lib.ListN.{length, take, drop, get_or}
 use borrow.Author.Tests.{le-leb, leb-false, leb-true}
+use Rattle.std.specs.Prelude.{None, Some}
 use Rattle.refusal.specs.declared.Refusal.{Refusal}
 use Rattle.refusal.specs.declared.Refusal.TheVariants.{BufferSize, TraceFault}
 use Rattle.cmd_lora.specs.Responses.{lora_packet_status_rsp, lora_rx_stats_rsp}
@@ -38,10 +39,6 @@ use Rattle.book.specs.Book as Call
 use Rattle.book.specs.History.{Make, after, on_bytes}
 use Rattle.book.proofs.Calls.{done_refused}
 use Rattle.day.specs.declared.Day.{Day}
-use Rattle.day.specs.declared.LastLoraRxStats.TheVariants as lastLoraRxStats
-use Rattle.day.specs.declared.LastLoraPacketStatus.TheVariants as lastLoraPacketStatus
-use Rattle.day.specs.declared.LastFskRxStats.TheVariants as lastFskRxStats
-use Rattle.day.specs.declared.LastFskPacketStatus.TheVariants as lastFskPacketStatus
 use Rattle.day.specs.Days.{fresh, most}
 use Rattle.day.specs.Steps.{Record, State, day_on, morning}
 use Rattle.day.specs.Tally.{accepted_from, answers_to, newest, puts, puttable, refused_from, sum, unread}
@@ -204,19 +201,19 @@ module _ (b : List ℕ) (low : start ours.slots ≤ length b) (high : length b �
 
   module _ (t : List ℕ) where
     pub play-lora-rx-stats : (plays t b).played.day.lora_rx_stats
-        ≡ newest (λ x. lastLoraRxStats.Last (lora_rx_stats_rsp x)) lastLoraRxStats.Never (answers_to 9 12 0 (traced t).records)
+        ≡ newest (λ x. Some (lora_rx_stats_rsp x)) None (answers_to 9 12 0 (traced t).records)
     play-lora-rx-stats = of-day t (λ d. d.lora_rx_stats) ∙ last-lora-rx-stats room (traced t).records
 
     pub play-lora-packet-status : (plays t b).played.day.lora_packet_status
-        ≡ newest (λ x. lastLoraPacketStatus.Last (lora_packet_status_rsp x)) lastLoraPacketStatus.Never (answers_to 10 8 0 (traced t).records)
+        ≡ newest (λ x. Some (lora_packet_status_rsp x)) None (answers_to 10 8 0 (traced t).records)
     play-lora-packet-status = of-day t (λ d. d.lora_packet_status) ∙ last-lora-packet-status room (traced t).records
 
     pub play-fsk-rx-stats : (plays t b).played.day.fsk_rx_stats
-        ≡ newest (λ x. lastFskRxStats.Last (fsk_rx_stats_rsp x)) lastFskRxStats.Never (answers_to 22 16 0 (traced t).records)
+        ≡ newest (λ x. Some (fsk_rx_stats_rsp x)) None (answers_to 22 16 0 (traced t).records)
     play-fsk-rx-stats = of-day t (λ d. d.fsk_rx_stats) ∙ last-fsk-rx-stats room (traced t).records
 
     pub play-fsk-packet-status : (plays t b).played.day.fsk_packet_status
-        ≡ newest (λ x. lastFskPacketStatus.Last (fsk_packet_status_rsp x)) lastFskPacketStatus.Never (answers_to 23 8 0 (traced t).records)
+        ≡ newest (λ x. Some (fsk_packet_status_rsp x)) None (answers_to 23 8 0 (traced t).records)
     play-fsk-packet-status = of-day t (λ d. d.fsk_packet_status) ∙ last-fsk-packet-status room (traced t).records
 
     -- none exactly if there is no such answer
@@ -224,10 +221,10 @@ module _ (b : List ℕ) (low : start ours.slots ≤ length b) (high : length b �
     rs = (traced t).records
 
     pub play-never :
-        (((plays t b).played.day.lora_rx_stats ≡ lastLoraRxStats.Never) ↔ (answers_to 9 12 0 rs ≡ []))
-        × (((plays t b).played.day.lora_packet_status ≡ lastLoraPacketStatus.Never) ↔ (answers_to 10 8 0 rs ≡ []))
-        × (((plays t b).played.day.fsk_rx_stats ≡ lastFskRxStats.Never) ↔ (answers_to 22 16 0 rs ≡ []))
-        × (((plays t b).played.day.fsk_packet_status ≡ lastFskPacketStatus.Never) ↔ (answers_to 23 8 0 rs ≡ []))
+        (((plays t b).played.day.lora_rx_stats ≡ None) ↔ (answers_to 9 12 0 rs ≡ []))
+        × (((plays t b).played.day.lora_packet_status ≡ None) ↔ (answers_to 10 8 0 rs ≡ []))
+        × (((plays t b).played.day.fsk_rx_stats ≡ None) ↔ (answers_to 22 16 0 rs ≡ []))
+        × (((plays t b).played.day.fsk_packet_status ≡ None) ↔ (answers_to 23 8 0 rs ≡ []))
     play-never = (
       rw (of-day t (λ d. d.lora_rx_stats)) (never-lora-rx-stats room rs),
       rw (of-day t (λ d. d.lora_packet_status)) (never-lora-packet-status room rs),

@@ -5,15 +5,12 @@ use mathlib.Core.Path.{◌≡◌, refl}
 use mathlib.Core.Bool.{true, false}
 use mathlib.Core.List.{List, [], ◌∷◌, ◌++◌}
 use Prim.Native.Nat.{ℕ}
+use Rattle.std.specs.Prelude.{Some}
 use Rattle.reading.specs.Decimal.{decimal, digits}
 use Rattle.reading.specs.Level.{tenths, hundredths, rssi_text, snr_text}
 use Rattle.cmd_lora.specs.Responses.{snr, lora_rx_stats_rsp, lora_packet_status_rsp}
 use Rattle.cmd_fsk.specs.Responses.{fsk_rx_stats_rsp, fsk_packet_status_rsp}
 use Rattle.day.specs.declared.Day.{Day}
-use Rattle.day.specs.declared.LastLoraRxStats.TheVariants as lastLoraRxStats
-use Rattle.day.specs.declared.LastLoraPacketStatus.TheVariants as lastLoraPacketStatus
-use Rattle.day.specs.declared.LastFskRxStats.TheVariants as lastFskRxStats
-use Rattle.day.specs.declared.LastFskPacketStatus.TheVariants as lastFskPacketStatus
 use Rattle.texts.specs.Words.{word, spaced, line}
 use Rattle.report.specs.Report.{refused_by, refused_below, counts_text, numbers_text, stopped_text}
 
@@ -22,10 +19,10 @@ pub day : Day
 day =
     record {
       latest = 0;
-      lora_rx_stats = lastLoraRxStats.Last (lora_rx_stats_rsp (4 ∷ 4 ∷ 1 ∷ 5 ∷ 0 ∷ 3 ∷ 0 ∷ 4 ∷ 1 ∷ 6 ∷ 0 ∷ 7 ∷ []));
-      lora_packet_status = lastLoraPacketStatus.Last (lora_packet_status_rsp (4 ∷ 4 ∷ 18 ∷ 24 ∷ 249 ∷ 90 ∷ 91 ∷ 38 ∷ []));
-      fsk_rx_stats = lastFskRxStats.Last (fsk_rx_stats_rsp (4 ∷ 4 ∷ 2 ∷ 0 ∷ 0 ∷ 11 ∷ 0 ∷ 13 ∷ 2 ∷ 88 ∷ 2 ∷ 22 ∷ 0 ∷ 14 ∷ 0 ∷ 15 ∷ []));
-      fsk_packet_status = lastFskPacketStatus.Last (fsk_packet_status_rsp (4 ∷ 4 ∷ 1 ∷ 3 ∷ 60 ∷ 60 ∷ 17 ∷ 12 ∷ []));
+      lora_rx_stats = Some (lora_rx_stats_rsp (4 ∷ 4 ∷ 1 ∷ 5 ∷ 0 ∷ 3 ∷ 0 ∷ 4 ∷ 1 ∷ 6 ∷ 0 ∷ 7 ∷ []));
+      lora_packet_status = Some (lora_packet_status_rsp (4 ∷ 4 ∷ 18 ∷ 24 ∷ 249 ∷ 90 ∷ 91 ∷ 38 ∷ []));
+      fsk_rx_stats = Some (fsk_rx_stats_rsp (4 ∷ 4 ∷ 2 ∷ 0 ∷ 0 ∷ 11 ∷ 0 ∷ 13 ∷ 2 ∷ 88 ∷ 2 ∷ 22 ∷ 0 ∷ 14 ∷ 0 ∷ 15 ∷ []));
+      fsk_packet_status = Some (fsk_packet_status_rsp (4 ∷ 4 ∷ 1 ∷ 3 ∷ 60 ∷ 60 ∷ 17 ∷ 12 ∷ []));
       accepted = 20;
       refused = 0 ∷ 21 ∷ 22 ∷ 23 ∷ 25 ∷ 26 ∷ 0 ∷ 0 ∷ 27 ∷ [];
       skipped = 28;

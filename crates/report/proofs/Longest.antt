@@ -9,20 +9,17 @@ use lib.Dec.{ltb}
 use lib.IntN.{ℤ, pos, nat_abs}
 use lib.Signed.{lt_z}
 use lib.ListN.{length, get_or, length-append}
+use Rattle.std.specs.Prelude.{Option, None, Some}
 use Rattle.reading.specs.Decimal.{decimal}
 use Rattle.reading.specs.Level.{minus, tenths, hundredths, rssi_text, snr_text}
 use Rattle.texts.specs.Words.{word, line}
 use Rattle.texts.proofs.Longest.{decimal-most, spaced-length, spaced-none}
 use Rattle.dump_text.proofs.Longest.{line-longest}
+use Rattle.cmd_lora.specs.declared.rsp.LoraRxStatsRsp.{LoraRxStatsRsp}
+use Rattle.cmd_lora.specs.declared.rsp.LoraPacketStatusRsp.{LoraPacketStatusRsp}
+use Rattle.cmd_fsk.specs.declared.rsp.FskRxStatsRsp.{FskRxStatsRsp}
+use Rattle.cmd_fsk.specs.declared.rsp.FskPacketStatusRsp.{FskPacketStatusRsp}
 use Rattle.day.specs.declared.Day.{Day}
-use Rattle.day.specs.declared.LastLoraRxStats.{LastLoraRxStats}
-use Rattle.day.specs.declared.LastLoraRxStats.TheVariants as lastLoraRxStats
-use Rattle.day.specs.declared.LastLoraPacketStatus.{LastLoraPacketStatus}
-use Rattle.day.specs.declared.LastLoraPacketStatus.TheVariants as lastLoraPacketStatus
-use Rattle.day.specs.declared.LastFskRxStats.{LastFskRxStats}
-use Rattle.day.specs.declared.LastFskRxStats.TheVariants as lastFskRxStats
-use Rattle.day.specs.declared.LastFskPacketStatus.{LastFskPacketStatus}
-use Rattle.day.specs.declared.LastFskPacketStatus.TheVariants as lastFskPacketStatus
 use Rattle.report.specs.Report.{flag, refused_by, refused_below, counts_text, numbers_text, frame_text, stopped_text}
 use Rattle.report.specs.Report.{lora_rx_stats_text, lora_packet_status_text, fsk_rx_stats_text, fsk_packet_status_text}
 use Rattle.report.specs.Lengths.{longest, longest_line}
@@ -82,10 +79,10 @@ counts-most d =
       one-most (word "skipped") d.skipped,
     ))
 
-lora-rx-stats-most : (l : LastLoraRxStats) → length (lora_rx_stats_text l) ≤ 170
+lora-rx-stats-most : (l : Option LoraRxStatsRsp) → length (lora_rx_stats_text l) ≤ 170
 unfolding line
-lora-rx-stats-most lastLoraRxStats.Never = omega arith
-lora-rx-stats-most (lastLoraRxStats.Last r) =
+lora-rx-stats-most None = omega arith
+lora-rx-stats-most (Some r) =
     simp (length-append, spaced-length, spaced-none)
     (omega (
       arith,
@@ -96,10 +93,10 @@ lora-rx-stats-most (lastLoraRxStats.Last r) =
       decimal-most r.false_sync,
     ))
 
-lora-packet-status-most : (l : LastLoraPacketStatus) → length (lora_packet_status_text l) ≤ 245
+lora-packet-status-most : (l : Option LoraPacketStatusRsp) → length (lora_packet_status_text l) ≤ 245
 unfolding line
-lora-packet-status-most lastLoraPacketStatus.Never = omega arith
-lora-packet-status-most (lastLoraPacketStatus.Last r) =
+lora-packet-status-most None = omega arith
+lora-packet-status-most (Some r) =
     simp (length-append, spaced-length, spaced-none)
     (omega (
       arith,
@@ -112,10 +109,10 @@ lora-packet-status-most (lastLoraPacketStatus.Last r) =
       decimal-most r.detector,
     ))
 
-fsk-rx-stats-most : (l : LastFskRxStats) → length (fsk_rx_stats_text l) ≤ 221
+fsk-rx-stats-most : (l : Option FskRxStatsRsp) → length (fsk_rx_stats_text l) ≤ 221
 unfolding line
-fsk-rx-stats-most lastFskRxStats.Never = omega arith
-fsk-rx-stats-most (lastFskRxStats.Last r) =
+fsk-rx-stats-most None = omega arith
+fsk-rx-stats-most (Some r) =
     simp (length-append, spaced-length, spaced-none)
     (omega (
       arith,
@@ -128,10 +125,10 @@ fsk-rx-stats-most (lastFskRxStats.Last r) =
       decimal-most r.timeout,
     ))
 
-fsk-packet-status-most : (l : LastFskPacketStatus) → length (fsk_packet_status_text l) ≤ 214
+fsk-packet-status-most : (l : Option FskPacketStatusRsp) → length (fsk_packet_status_text l) ≤ 214
 unfolding line
-fsk-packet-status-most lastFskPacketStatus.Never = omega arith
-fsk-packet-status-most (lastFskPacketStatus.Last r) =
+fsk-packet-status-most None = omega arith
+fsk-packet-status-most (Some r) =
     simp (length-append, spaced-length, spaced-none)
     (omega (
       arith,

@@ -1,6 +1,6 @@
 -- The text of a day's numbers, to the byte (REFERENCE, "Playback").
 -- Assumes nothing.
-use Rattle.std.specs.Prelude.{ℕ, zero, suc, Bool, cond, List, [], ◌∷◌, ◌++◌, ltb, get_or}
+use Rattle.std.specs.Prelude.{ℕ, zero, suc, Bool, cond, Option, None, Some, List, [], ◌∷◌, ◌++◌, ltb, get_or}
 use Rattle.reading.specs.Decimal.{decimal}
 use Rattle.reading.specs.Level.{rssi_text, snr_text}
 use Rattle.texts.specs.Words.{word, line}
@@ -11,14 +11,6 @@ use Rattle.cmd_lora.specs.declared.rsp.LoraPacketStatusRsp.{LoraPacketStatusRsp}
 use Rattle.cmd_fsk.specs.declared.rsp.FskRxStatsRsp.{FskRxStatsRsp}
 use Rattle.cmd_fsk.specs.declared.rsp.FskPacketStatusRsp.{FskPacketStatusRsp}
 use Rattle.day.specs.declared.Day.{Day}
-use Rattle.day.specs.declared.LastLoraRxStats.{LastLoraRxStats}
-use Rattle.day.specs.declared.LastLoraRxStats.TheVariants as lastLoraRxStats
-use Rattle.day.specs.declared.LastLoraPacketStatus.{LastLoraPacketStatus}
-use Rattle.day.specs.declared.LastLoraPacketStatus.TheVariants as lastLoraPacketStatus
-use Rattle.day.specs.declared.LastFskRxStats.{LastFskRxStats}
-use Rattle.day.specs.declared.LastFskRxStats.TheVariants as lastFskRxStats
-use Rattle.day.specs.declared.LastFskPacketStatus.{LastFskPacketStatus}
-use Rattle.day.specs.declared.LastFskPacketStatus.TheVariants as lastFskPacketStatus
 
 -- yes prints as 1, no as 0
 abbrev pub flag : Bool → List ℕ
@@ -45,35 +37,35 @@ counts_text d =
 
 -- ---- readings: their fields as the chip has them in order, each with its name before it; a request that was never answered has no line
 
-abbrev pub lora_rx_stats_text : LastLoraRxStats → List ℕ
-lora_rx_stats_text lastLoraRxStats.Never = []
-lora_rx_stats_text (lastLoraRxStats.Last r) =
+abbrev pub lora_rx_stats_text : Option LoraRxStatsRsp → List ℕ
+lora_rx_stats_text None = []
+lora_rx_stats_text (Some r) =
     line (word "lora_rx_stats")
     (word "pkt_rx" ∷ decimal r.pkt_rx ∷ word "crc_error" ∷ decimal r.crc_error
     ∷ word "header_error" ∷ decimal r.header_error ∷ word "detection" ∷ decimal r.detection
     ∷ word "false_sync" ∷ decimal r.false_sync ∷ [])
 
-abbrev pub lora_packet_status_text : LastLoraPacketStatus → List ℕ
-lora_packet_status_text lastLoraPacketStatus.Never = []
-lora_packet_status_text (lastLoraPacketStatus.Last r) =
+abbrev pub lora_packet_status_text : Option LoraPacketStatusRsp → List ℕ
+lora_packet_status_text None = []
+lora_packet_status_text (Some r) =
     line (word "lora_packet_status")
     (word "crc" ∷ flag r.crc ∷ word "coding_rate" ∷ decimal r.coding_rate
     ∷ word "pkt_length" ∷ decimal r.pkt_length ∷ word "snr_pkt" ∷ snr_text r.snr_pkt.0
     ∷ word "rssi_pkt" ∷ rssi_text r.rssi_pkt.0 ∷ word "rssi_signal_pkt" ∷ rssi_text r.rssi_signal_pkt.0
     ∷ word "detector" ∷ decimal r.detector ∷ [])
 
-abbrev pub fsk_rx_stats_text : LastFskRxStats → List ℕ
-fsk_rx_stats_text lastFskRxStats.Never = []
-fsk_rx_stats_text (lastFskRxStats.Last r) =
+abbrev pub fsk_rx_stats_text : Option FskRxStatsRsp → List ℕ
+fsk_rx_stats_text None = []
+fsk_rx_stats_text (Some r) =
     line (word "fsk_rx_stats")
     (word "pkt_rx" ∷ decimal r.pkt_rx ∷ word "crc_error" ∷ decimal r.crc_error
     ∷ word "len_error" ∷ decimal r.len_error ∷ word "pbl_det" ∷ decimal r.pbl_det
     ∷ word "sync_ok" ∷ decimal r.sync_ok ∷ word "sync_fail" ∷ decimal r.sync_fail
     ∷ word "timeout" ∷ decimal r.timeout ∷ [])
 
-abbrev pub fsk_packet_status_text : LastFskPacketStatus → List ℕ
-fsk_packet_status_text lastFskPacketStatus.Never = []
-fsk_packet_status_text (lastFskPacketStatus.Last r) =
+abbrev pub fsk_packet_status_text : Option FskPacketStatusRsp → List ℕ
+fsk_packet_status_text None = []
+fsk_packet_status_text (Some r) =
     line (word "fsk_packet_status")
     (word "pkt_len" ∷ decimal r.pkt_len ∷ word "rssi_avg" ∷ rssi_text r.rssi_avg.0
     ∷ word "rssi_sync" ∷ rssi_text r.rssi_sync.0 ∷ word "addr_match_bcast" ∷ flag r.addr_match_bcast

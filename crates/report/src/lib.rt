@@ -12,7 +12,9 @@ ghost use Rattle.report.specs.Report.{counts_text, lora_rx_stats_text, lora_pack
 ghost use Rattle.report.specs.Report.{numbers_text, frame_text, stopped_text};
 ghost use Rattle.report.specs.Lengths.{longest, longest_line};
 
-use day::{Day, LastFskPacketStatus, LastFskRxStats, LastLoraPacketStatus, LastLoraRxStats};
+use cmd_fsk::{FskPacketStatusRsp, FskRxStatsRsp};
+use cmd_lora::{LoraPacketStatusRsp, LoraRxStatsRsp};
+use day::Day;
 use reading::{HalfDbm, QuarterDb};
 use texts::{put_form, put_text, put_word};
 
@@ -89,10 +91,10 @@ fn put_counts(out: &mut [u8], at: usize, day: Day) -> usize
 
 // ---- readings
 
-fn put_lora_rx_stats(out: &mut [u8], at: usize, last: LastLoraRxStats) -> usize
+fn put_lora_rx_stats(out: &mut [u8], at: usize, last: Option<LoraRxStatsRsp>) -> usize
     ensures { Puts (lora_rx_stats_text last) at out.old result out.new }
 {
-    let LastLoraRxStats::Last(rsp) = last else {
+    let Some(rsp) = last else {
         return at;
     };
     let numbers = [
@@ -110,10 +112,10 @@ fn put_lora_rx_stats(out: &mut [u8], at: usize, last: LastLoraRxStats) -> usize
     )
 }
 
-fn put_lora_packet_status(out: &mut [u8], at: usize, last: LastLoraPacketStatus) -> usize
+fn put_lora_packet_status(out: &mut [u8], at: usize, last: Option<LoraPacketStatusRsp>) -> usize
     ensures { Puts (lora_packet_status_text last) at out.old result out.new }
 {
-    let LastLoraPacketStatus::Last(rsp) = last else {
+    let Some(rsp) = last else {
         return at;
     };
     let front = [
@@ -134,10 +136,10 @@ fn put_lora_packet_status(out: &mut [u8], at: usize, last: LastLoraPacketStatus)
     put_form(out, d, b" detector 0\n", &back)
 }
 
-fn put_fsk_rx_stats(out: &mut [u8], at: usize, last: LastFskRxStats) -> usize
+fn put_fsk_rx_stats(out: &mut [u8], at: usize, last: Option<FskRxStatsRsp>) -> usize
     ensures { Puts (fsk_rx_stats_text last) at out.old result out.new }
 {
-    let LastFskRxStats::Last(rsp) = last else {
+    let Some(rsp) = last else {
         return at;
     };
     let numbers = [
@@ -157,10 +159,10 @@ fn put_fsk_rx_stats(out: &mut [u8], at: usize, last: LastFskRxStats) -> usize
     )
 }
 
-fn put_fsk_packet_status(out: &mut [u8], at: usize, last: LastFskPacketStatus) -> usize
+fn put_fsk_packet_status(out: &mut [u8], at: usize, last: Option<FskPacketStatusRsp>) -> usize
     ensures { Puts (fsk_packet_status_text last) at out.old result out.new }
 {
-    let LastFskPacketStatus::Last(rsp) = last else {
+    let Some(rsp) = last else {
         return at;
     };
     let front = [rsp.pkt_len as u64];

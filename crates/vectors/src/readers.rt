@@ -2,16 +2,15 @@
 use crate::answer::Answer;
 use crate::lora::{lora_bw, lora_cr, sf};
 use crate::request::{byte, u16_at, u32_at};
-use cmd_common::rsp::{
-    CcaResultRead, CcaResultRsp, RssiInstRead, RssiInstRsp, TimestampValueRead, TimestampValueRsp,
-};
-use cmd_fsk::rsp::{FskPacketStatusRead, FskPacketStatusRsp, FskRxStatsRead, FskRxStatsRsp};
-use cmd_lora::rsp::{LoraPacketStatusRead, LoraPacketStatusRsp, LoraRxStatsRead, LoraRxStatsRsp};
-use cmd_lora::{LoraBw, LoraCr, Ordering};
+use cmd_common::rsp::{CcaResultRsp, RssiInstRsp, TimestampValueRsp};
+use cmd_fsk::rsp::{FskPacketStatusRsp, FskRxStatsRsp};
+use cmd_lora::rsp::{LoraPacketStatusRsp, LoraRxStatsRsp};
+use cmd_lora::{LoraBw, LoraCr};
 use reading::{HalfDbm, QuarterDb, Text, counter_difference};
 use refusal::Refusal;
 use rx_bw::rx_bw_tenths;
 use status::{Intr, Lr2021Error, Status};
+use std::cmp::Ordering;
 
 // The answer for an operation on a slice of the payload; empty for any other.
 pub fn read_slice(op: u8, s: &[u8], p: &[u8]) -> Answer {
@@ -34,7 +33,7 @@ pub fn read_numbers(op: u8, p: &[u8]) -> Answer {
     match op {
         73 => bandwidths(lora_bw(p, 0), lora_bw(p, 1)),
         74 => coding_rate(lora_cr(p, 0)),
-        75 => Answer::new().byte(order(sf(p, 0).cmp(sf(p, 1)))),
+        75 => Answer::new().byte(order(sf(p, 0).cmp(&sf(p, 1)))),
         76 => text(HalfDbm(u16_at(p, 0)).text()),
         77 => text(QuarterDb::from_byte(byte(p, 0)).text()),
         78 => Answer::new().put_u16(counter_difference(u16_at(p, 0), u16_at(p, 2))),
@@ -168,22 +167,20 @@ fn accepted(s: Status) -> Answer {
 }
 
 fn lora_rx_stats(s: &[u8]) -> Answer {
-    let read = LoraRxStatsRsp::from_slice(s);
-    match read {
-        LoraRxStatsRead::Rsp(r) => accepted(r.status)
+    match LoraRxStatsRsp::from_slice(s) {
+        Ok(r) => accepted(r.status)
             .put_u16(r.pkt_rx)
             .put_u16(r.crc_error)
             .put_u16(r.header_error)
             .put_u16(r.detection)
             .put_u16(r.false_sync),
-        LoraRxStatsRead::Refused(x) => refused(x),
+        Err(x) => refused(x),
     }
 }
 
 fn lora_packet_status(s: &[u8]) -> Answer {
-    let read = LoraPacketStatusRsp::from_slice(s);
-    match read {
-        LoraPacketStatusRead::Rsp(r) => {
+    match LoraPacketStatusRsp::from_slice(s) {
+        Ok(r) => {
             let a = accepted(r.status)
                 .flag(r.crc)
                 .byte(r.coding_rate)
@@ -193,7 +190,7 @@ fn lora_packet_status(s: &[u8]) -> Answer {
                 .put_u16(r.rssi_signal_pkt.0)
                 .byte(r.detector)
         }
-        LoraPacketStatusRead::Refused(x) => refused(x),
+        Err(x) => refused(x),
     }
 }
 
@@ -207,9 +204,8 @@ fn signed(z: i8) -> u8 {
 }
 
 fn fsk_rx_stats(s: &[u8]) -> Answer {
-    let read = FskRxStatsRsp::from_slice(s);
-    match read {
-        FskRxStatsRead::Rsp(r) => {
+    match FskRxStatsRsp::from_slice(s) {
+        Ok(r) => {
             let a = accepted(r.status)
                 .put_u16(r.pkt_rx)
                 .put_u16(r.crc_error)
@@ -217,14 +213,13 @@ fn fsk_rx_stats(s: &[u8]) -> Answer {
                 .put_u16(r.pbl_det);
             a.put_u16(r.sync_ok).put_u16(r.sync_fail).put_u16(r.timeout)
         }
-        FskRxStatsRead::Refused(x) => refused(x),
+        Err(x) => refused(x),
     }
 }
 
 fn fsk_packet_status(s: &[u8]) -> Answer {
-    let read = FskPacketStatusRsp::from_slice(s);
-    match read {
-        FskPacketStatusRead::Rsp(r) => {
+    match FskPacketStatusRsp::from_slice(s) {
+        Ok(r) => {
             let a = accepted(r.status)
                 .put_u16(r.pkt_len)
                 .put_u16(r.rssi_avg.0)
@@ -233,34 +228,31 @@ fn fsk_packet_status(s: &[u8]) -> Answer {
                 .flag(r.addr_match_node)
                 .byte(r.lqi)
         }
-        FskPacketStatusRead::Refused(x) => refused(x),
+        Err(x) => refused(x),
     }
 }
 
 fn rssi_inst(s: &[u8]) -> Answer {
-    let read = RssiInstRsp::from_slice(s);
-    match read {
-        RssiInstRead::Rsp(r) => accepted(r.status).put_u16(r.rssi.0),
-        RssiInstRead::Refused(x) => refused(x),
+    match RssiInstRsp::from_slice(s) {
+        Ok(r) => accepted(r.status).put_u16(r.rssi.0),
+        Err(x) => refused(x),
     }
 }
 
 fn timestamp_value(s: &[u8]) -> Answer {
-    let read = TimestampValueRsp::from_slice(s);
-    match read {
-        TimestampValueRead::Rsp(r) => accepted(r.status).put_u32(r.timestamp),
-        TimestampValueRead::Refused(x) => refused(x),
+    match TimestampValueRsp::from_slice(s) {
+        Ok(r) => accepted(r.status).put_u32(r.timestamp),
+        Err(x) => refused(x),
     }
 }
 
 fn cca_result(s: &[u8]) -> Answer {
-    let read = CcaResultRsp::from_slice(s);
-    match read {
-        CcaResultRead::Rsp(r) => accepted(r.status)
+    match CcaResultRsp::from_slice(s) {
+        Ok(r) => accepted(r.status)
             .put_u16(r.rssi_min.0)
             .put_u16(r.rssi_max.0)
             .put_u16(r.rssi_avg.0),
-        CcaResultRead::Refused(x) => refused(x),
+        Err(x) => refused(x),
     }
 }
 
@@ -276,7 +268,7 @@ fn bandwidths(w: LoraBw, other: LoraBw) -> Answer {
     Answer::new()
         .put_u32(w.to_hz())
         .flag(w.is_fractional())
-        .byte(order(w.cmp(other)))
+        .byte(order(w.cmp(&other)))
 }
 
 fn coding_rate(r: LoraCr) -> Answer {

@@ -10,5 +10,5 @@ use Rattle.report.proofs.put_fsk_packet_status.Goals as goal
 pub returns : goal.returns
 returns c =
     let back = rw (c.number_of.ensures, c.number_of-2.ensures) at c.put_form.ensures in
-    puts-as _ (ap fsk_packet_status_text c.in-Last.is ∙ fsk-packet-form _ _ _ _ _ _)
+    puts-as _ (ap fsk_packet_status_text c.in-Some.is ∙ fsk-packet-form _ _ _ _ _ _)
     (puts_then c.put_form-a.ensures (puts_then c.put_level-b.ensures (puts_then c.put_level-c.ensures back)))

@@ -9,4 +9,4 @@ use Rattle.report.proofs.put_fsk_rx_stats.Goals as goal
 
 pub returns : goal.returns
 returns c =
-    puts-as _ (ap fsk_rx_stats_text c.in-Last.is ∙ fsk-rx-form _ _ _ _ _ _ _) c.put_form.ensures
+    puts-as _ (ap fsk_rx_stats_text c.in-Some.is ∙ fsk-rx-form _ _ _ _ _ _ _) c.put_form.ensures

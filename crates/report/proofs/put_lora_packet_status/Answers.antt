@@ -11,4 +11,4 @@ pub returns : goal.returns
 returns c =
     let front = rw c.number_of.ensures at c.put_form-a.ensures in
     let back = puts_then c.put_level-c.ensures (puts_then c.put_level-d.ensures c.put_form.ensures) in
-    puts-as _ (ap lora_packet_status_text c.in-Last.is ∙ lora-packet-form _ _ _ _ _ _ _) (puts_then front (puts_then c.put_ratio-b.ensures back))
+    puts-as _ (ap lora_packet_status_text c.in-Some.is ∙ lora-packet-form _ _ _ _ _ _ _) (puts_then front (puts_then c.put_ratio-b.ensures back))

@@ -9,4 +9,4 @@ use Rattle.report.proofs.put_lora_rx_stats.Goals as goal
 
 pub returns : goal.returns
 returns c =
-    puts-as _ (ap lora_rx_stats_text c.in-Last.is ∙ lora-rx-form _ _ _ _ _) c.put_form.ensures
+    puts-as _ (ap lora_rx_stats_text c.in-Some.is ∙ lora-rx-form _ _ _ _ _) c.put_form.ensures
