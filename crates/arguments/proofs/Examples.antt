@@ -3,6 +3,7 @@
 use mathlib.Core.Path.{◌≡◌, refl}
 use mathlib.Core.List.{List, [], ◌∷◌}
 use Prim.Native.String.{String}
+use Rattle.std.proofs.Common.{None, Some}
 use Rattle.arguments.specs.declared.Place.{Place}
 use Rattle.arguments.specs.declared.Place.TheVariants.{Argument, StandardInput}
 use Rattle.arguments.specs.declared.Word.{Word}
@@ -56,15 +57,15 @@ examples = refl
 -- no name; `--` alone; one name, two, three; `--` before, between and behind them; a mark that is no argument
 abbrev inputs : List (List Place)
 inputs =
-    places_of 0 0
-    ∷ places_of 1 1
-    ∷ places_of 1 0
-    ∷ places_of 2 0
-    ∷ places_of 3 0
-    ∷ places_of 3 1
-    ∷ places_of 3 2
-    ∷ places_of 3 3
-    ∷ places_of 3 4
+    places_of 0 None
+    ∷ places_of 1 (Some 1)
+    ∷ places_of 1 None
+    ∷ places_of 2 None
+    ∷ places_of 3 None
+    ∷ places_of 3 (Some 1)
+    ∷ places_of 3 (Some 2)
+    ∷ places_of 3 (Some 3)
+    ∷ places_of 3 (Some 4)
     ∷ []
 
 abbrev wanted : List (List Place)

@@ -2,12 +2,12 @@
 // specs/Words.antt and specs/Places.antt have the rules.
 #![tactic(auto)]
 
-ghost use Rattle.std.specs.Prelude.{◌≡◌, ◌<◌, get_or, length};
+ghost use Rattle.std.specs.Prelude.{◌≡◌, ◌<◌, length, slice_get};
 ghost use Rattle.arguments.specs.Words.{same_bytes, word_of};
 ghost use Rattle.arguments.specs.Places.{names_of, place_at, places_of};
 
 // What an argument is before `--`, behind which each is a name.
-#[derive(Clone, Copy)]
+#[derive(Clone, Copy, Debug, PartialEq, Eq)]
 pub enum Word {
     Name,
     Mark,
@@ -16,50 +16,43 @@ pub enum Word {
     Unknown,
 }
 
-// Whether both have the same bytes in the same order.
+// Whether both have the same bytes in the same order: `==`, under the name and the theorem of one outcome that the front and its edits have it by.
 pub fn same_bytes(a: &[u8], b: &[u8]) -> bool
     ensures { result ≡ same_bytes a.now b.now }
 {
     a == b
 }
 
+// Tests and no `match` on the byte strings: that one leaves a goal for each of some twenty ways through the bytes, and none is found.
 #[tactic(auto, unfolding(crate::specs::Words::word_of, crate::specs::Words::is_option))]
 pub fn word_of(arg: &[u8]) -> Word
     ensures { result ≡ word_of arg.now }
 {
     if same_bytes(arg, b"--") {
-        return Word::Mark;
+        Word::Mark
+    } else if same_bytes(arg, b"-h") || same_bytes(arg, b"--help") {
+        Word::Help
+    } else if same_bytes(arg, b"--version") {
+        Word::Version
+    } else if 1 < arg.len() && arg[0] == b'-' {
+        Word::Unknown
+    } else {
+        Word::Name
     }
-    if same_bytes(arg, b"-h") {
-        return Word::Help;
-    }
-    if same_bytes(arg, b"--help") {
-        return Word::Help;
-    }
-    if same_bytes(arg, b"--version") {
-        return Word::Version;
-    }
-    if 1 < arg.len() {
-        if arg[0] == b'-' {
-            return Word::Unknown;
-        }
-    }
-    Word::Name
 }
 
-// What a program is given behind its name: so many arguments, of which `mark` is the first that is `--`; 0 if none is.
-#[derive(Clone, Copy)]
+// What a program is given behind its name: so many arguments, and which of them is the mark, the first that is `--`, if one is.
+#[derive(Clone, Copy, Debug, PartialEq, Eq)]
 pub struct Inputs {
     pub given: usize,
-    pub mark: usize,
+    pub mark: Option<usize>,
 }
 
-// Where an input is: the argument that names it, or standard input where there is no name; nowhere if there is no such input.
-#[derive(Clone, Copy)]
+// Where an input is: the argument that names it, or standard input where there is no name.
+#[derive(Clone, Copy, Debug, PartialEq, Eq)]
 pub enum Place {
     Argument(usize),
     StandardInput,
-    Nowhere,
 }
 
 impl Inputs {
@@ -67,13 +60,10 @@ impl Inputs {
     fn names(self) -> usize
         ensures { result ≡ length (names_of self.given self.mark) }
     {
-        if self.mark == 0 {
-            return self.given;
+        match self.mark {
+            Some(mark) if 0 < mark && mark <= self.given => self.given - 1,
+            _ => self.given,
         }
-        if self.given < self.mark {
-            return self.given;
-        }
-        self.given - 1
     }
 
     // How many inputs there are.
@@ -87,27 +77,24 @@ impl Inputs {
     // The argument that is name i, counted from 0.
     fn argument(self, i: usize) -> usize
         requires { i < length (names_of self.given self.mark) }
-        ensures { Place.Argument result ≡ get_or (names_of self.given self.mark) i Place.Nowhere }
+        ensures { Some (Place.Argument result) ≡ slice_get (names_of self.given self.mark) i }
     {
-        if self.mark == 0 {
-            return i + 1;
+        match self.mark {
+            Some(mark) if 0 < mark && mark <= i + 1 => i + 2,
+            _ => i + 1,
         }
-        if i + 1 < self.mark {
-            return i + 1;
-        }
-        i + 2
     }
 
-    // Where input i is, counted from 0.
-    pub fn place(self, i: usize) -> Place
+    // Where input i is, counted from 0; nowhere past the last.
+    pub fn place(self, i: usize) -> Option<Place>
         ensures { result ≡ place_at self.given self.mark i }
     {
         if i < self.names() {
-            return Place::Argument(self.argument(i));
+            Some(Place::Argument(self.argument(i)))
+        } else if i == 0 {
+            Some(Place::StandardInput)
+        } else {
+            None
         }
-        if i == 0 {
-            return Place::StandardInput;
-        }
-        Place::Nowhere
     }
 }

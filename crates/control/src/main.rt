@@ -7,13 +7,10 @@ ghost use Rattle.std.specs.Prelude.{◌≤◌, length};
 
 use arguments::{Inputs, Place, same_bytes};
 use control_text::{Halt, LONGEST};
-use front::{Asked, Input, Streams};
+use front::{Closed, Front, Input};
 use std::fs::File;
 use std::rt::{Env, Files};
 use texts::put_text;
-
-// What a message begins with.
-const NAME: [u8; 7] = *b"control";
 
 // A byte more than the longest book has, so that a longer one is told without being read whole.
 const BOOK: usize = 4097;
@@ -27,18 +24,13 @@ const MESSAGE: usize = 101;
 // ---- the call
 
 // Whether a book is named, and one list at the most. What is wrong is said.
-fn is_right(streams: Streams, inputs: Inputs) -> bool {
-    let place = inputs.place(0);
-    let Place::Argument(_) = place else {
-        front::wrong_call(streams, &NAME, b"no book is named");
+fn is_right(front: &Front, inputs: Inputs) -> bool {
+    let Some(Place::Argument(_)) = inputs.place(0) else {
+        front.wrong_call(b"no book is named");
         return false;
     };
     if 2 < inputs.count() {
-        front::wrong_call(
-            streams,
-            &NAME,
-            b"one book and one list of statuses at a time",
-        );
+        front.wrong_call(b"one book and one list of statuses at a time");
         return false;
     }
     true
@@ -46,78 +38,70 @@ fn is_right(streams: Streams, inputs: Inputs) -> bool {
 
 // The list is the second name, or standard input where there is none.
 fn open_list<R: Env + Files<File = File>>(
+    front: &Front,
     rt: &R,
-    streams: Streams,
     inputs: Inputs,
     arg: &mut [u8],
-) -> Input
+) -> Option<Input>
     ensures { Opening arg.old arg.new result }
 {
     if inputs.count() < 2 {
-        return front::open(rt, streams, &NAME, Inputs { given: 0, mark: 0 }, 0, arg);
+        let nameless = Inputs {
+            given: 0,
+            mark: None,
+        };
+        return front.open(rt, nameless, 0, arg);
     }
-    front::open(rt, streams, &NAME, inputs, 1, arg)
+    front.open(rt, inputs, 1, arg)
 }
 
 // ---- what is said
 
-fn wrong_word(streams: Streams, name: &[u8], text: &[u8], start: usize, end: usize)
+fn wrong_word(front: &Front, name: &[u8], text: &[u8], start: usize, end: usize)
     requires { (start ≤ end) × (end ≤ length text.now) }
 {
     let mut what = [0u8; MESSAGE];
     let to = put_text(&mut what, 0, b"not four hex digits: ");
     let n = put_text(&mut what, to, &text[start..end]);
     let line = status_list::line_of(text, start);
-    front::wrong_line(streams, &NAME, name, line, &what[0..n]);
+    front.wrong_line(name, line, &what[0..n]);
 }
 
 // Whether a part of a list has too few words for the run.
 fn is_short(halt: Halt, whole: bool) -> bool {
-    if whole {
-        return false;
-    }
     if let Halt::Waiting = halt {
-        return true;
+        return !whole;
     }
     false
 }
 
 // Plays the book against a text: the whole list, or the words of the part of a longer one that is read.
-fn play(streams: Streams, name: &[u8], book: &[u8], text: &[u8], whole: bool) {
+fn play(front: &Front, name: &[u8], book: &[u8], text: &[u8], whole: bool) -> Result<(), Closed> {
     let mut out = [0u8; LONGEST];
     let played = control_text::play(book, text, &mut out);
-    let steps = played.steps;
-    let len = played.len;
     let halt = played.halt;
     if is_short(halt, whole) {
-        if front::say(streams, &NAME, &out[0..steps]) {
-            front::wrong_input(
-                streams,
-                &NAME,
-                name,
-                b"the first 65536 bytes do not end the run",
-            );
-        }
-        return;
+        front.say(&out[..played.steps])?;
+        front.wrong_input(name, b"the first 65536 bytes do not end the run");
+        return Ok(());
     }
-    if front::say(streams, &NAME, &out[0..len]) {
-        if let Halt::Wrong { start, end } = halt {
-            wrong_word(streams, name, text, start, end);
-        }
+    front.say(&out[..played.len])?;
+    if let Halt::Wrong { start, end } = halt {
+        wrong_word(front, name, text, start, end);
     }
+    Ok(())
 }
 
 // Plays the book against no status at all, and tells whether it waits for one. What is refused, or done at once, is said, and needs none.
-fn is_waiting(streams: Streams, book: &[u8]) -> bool {
+fn is_waiting(front: &Front, book: &[u8]) -> Result<bool, Closed> {
     let mut out = [0u8; LONGEST];
     let played = control_text::play(book, b"", &mut out);
-    let len = played.len;
     let halt = played.halt;
     if let Halt::Waiting = halt {
-        return true;
+        return Ok(true);
     }
-    front::say(streams, &NAME, &out[0..len]);
-    false
+    front.say(&out[..played.len])?;
+    Ok(false)
 }
 
 // ---- the inputs
@@ -126,89 +110,85 @@ fn is_waiting(streams: Streams, book: &[u8]) -> bool {
 fn whole_words(s: &[u8]) -> usize
     ensures { result ≤ length s.now }
 {
-    let mut n = s.len();
-    while 0 < n {
-        if status_list::is_blank(s[n - 1]) {
-            return n;
-        }
-        n -= 1;
+    match s.iter().rposition(|b| status_list::is_blank(*b)) {
+        Some(i) => i + 1,
+        None => 0,
     }
-    0
 }
 
 // Reads the list and plays the book against it.
-fn answer_list(streams: Streams, book: &[u8], list: Input, name: &[u8]) {
+fn answer_list(front: &Front, book: &[u8], list: Input, name: &[u8]) -> Result<(), Closed> {
     let mut s = [0u8; TEXT + 1];
-    let read = front::read_opened(streams, &NAME, list, name, &mut s);
-    if !read.found {
-        return;
-    }
-    let m = read.have;
-    if m <= TEXT {
-        play(streams, name, book, &s[0..m], true);
-        return;
+    let Some(read) = front.read_opened(list, name, &mut s) else {
+        return Ok(());
+    };
+    if read.have <= TEXT {
+        return play(front, name, book, &s[..read.have], true);
     }
     let n = whole_words(&s);
-    play(streams, name, book, &s[0..n], false);
+    play(front, name, book, &s[..n], false)
 }
 
 // Reads the book, and the list where it is waited for. Neither is read before both are open.
-fn answer(streams: Streams, book: Input, book_name: &[u8], list: Input, name: &[u8]) {
+fn answer(
+    front: &Front,
+    book: Input,
+    book_name: &[u8],
+    list: Option<Input>,
+    name: &[u8],
+) -> Result<(), Closed> {
     let mut b = [0u8; BOOK];
-    let read = front::read_opened(streams, &NAME, book, book_name, &mut b);
-    if !read.found {
-        return;
+    let Some(read) = front.read_opened(book, book_name, &mut b) else {
+        return Ok(());
+    };
+    let bytes = &b[..read.have];
+    if is_waiting(front, bytes)? {
+        if let Some(list) = list {
+            return answer_list(front, bytes, list, name);
+        }
     }
-    let n = read.have;
-    if is_waiting(streams, &b[0..n]) {
-        answer_list(streams, &b[0..n], list, name);
-    }
+    Ok(())
 }
 
 // The list, beside a book on standard input. Where there is none, the list may have got its descriptor: then it is given back, and the book's read fails.
-fn list_beside(book: &Input, list: Input) -> Input {
+fn list_beside(book: &Input, list: Input) -> Option<Input> {
     if list.fd == book.fd {
         front::close(list);
-        return Input {
-            found: false,
-            fd: -1,
-            name: 0,
-            file: None,
-        };
+        return None;
     }
-    list
+    Some(list)
 }
 
 // Answers, unless both are standard input.
-fn answer_named(streams: Streams, book: Input, book_name: &[u8], list: Input, name: &[u8]) {
-    if same_bytes(book_name, b"-") {
-        if same_bytes(name, b"-") {
-            front::wrong_call(
-                streams,
-                &NAME,
-                b"book and statuses cannot both be standard input",
-            );
-            return;
-        }
-        let own = list_beside(&book, list);
-        answer(streams, book, book_name, own, name);
-        return;
+fn answer_named(
+    front: &Front,
+    book: Input,
+    book_name: &[u8],
+    list: Input,
+    name: &[u8],
+) -> Result<(), Closed> {
+    if !same_bytes(book_name, b"-") {
+        return answer(front, book, book_name, Some(list), name);
     }
-    answer(streams, book, book_name, list, name);
+    if same_bytes(name, b"-") {
+        front.wrong_call(b"book and statuses cannot both be standard input");
+        return Ok(());
+    }
+    let own = list_beside(&book, list);
+    answer(front, book, book_name, own, name)
 }
 
 fn main(rt: HostRuntime) {
-    let streams = Streams {
+    let front = Front {
+        program: b"control",
         input: rt.stdin(),
         output: rt.stdout(),
         errors: rt.stderr(),
     };
     let mut arg = [0u8; 4096];
     let mut other = [0u8; 4096];
-    let asked = front::begin(
+    let Some(inputs) = front.begin(
         &rt,
-        streams,
-        &NAME,
         b"usage: control [--] BOOK [STATUSES]\n\
 Plays a book through the controller, which sends its frames one at each step, against the statuses that came back. The book's bytes are read from\n\
 BOOK, or from standard input where BOOK is -. The statuses are read from STATUSES, or from standard input where there is no STATUSES or STATUSES is -.\n\
@@ -224,22 +204,21 @@ the run breaks off without a last line, and so it does where the first 65536 byt
 -h, --help  prints this\n\
 --version   prints the version\n",
         &mut arg,
-    );
-    let Asked::Work(inputs) = asked else {
+    ) else {
         return;
     };
-    if !is_right(streams, inputs) {
+    if !is_right(&front, inputs) {
         return;
     }
-    let book = front::open(&rt, streams, &NAME, inputs, 0, &mut arg);
-    let list = open_list(&rt, streams, inputs, &mut other);
-    if !book.found {
+    let book = front.open(&rt, inputs, 0, &mut arg);
+    let list = open_list(&front, &rt, inputs, &mut other);
+    let Some(book) = book else {
         return;
-    }
-    if !list.found {
+    };
+    let Some(list) = list else {
         return;
-    }
-    let n = book.name;
-    let m = list.name;
-    answer_named(streams, book, &arg[0..n], list, &other[0..m]);
+    };
+    let book_name = &arg[..book.name];
+    let name = &other[..list.name];
+    let _ = answer_named(&front, book, book_name, list, name);
 }

@@ -3,91 +3,70 @@
 #![tactic(auto)]
 
 use arguments::Inputs;
-use front::{Asked, Input, Streams};
+use front::{Closed, Fetched, Front, Input};
 use std::fs::File;
 use std::rt::{Env, Files};
 
-// What a message begins with.
-const NAME: [u8; 4] = *b"dump";
-
-// Writes to standard output, and tells whether it takes more.
-fn say(streams: Streams, text: &[u8]) -> bool {
-    front::say(streams, &NAME, text)
-}
-
-// Dumps an input, and tells whether standard output takes more. Where a read fails, that is said and no line follows.
-// Nothing says that the input ends, so the turns are counted down from a number that no run uses up.
-fn run(streams: Streams, input: &Input, name: &[u8], s: &mut [u8], out: &mut [u8]) -> bool {
+// Dumps an input. Where a read fails, that is said and no line follows.
+// Nothing says that the input ends, so there are more turns than any run uses up.
+fn run(
+    front: &Front,
+    input: &Input,
+    name: &[u8],
+    s: &mut [u8],
+    out: &mut [u8],
+) -> Result<(), Closed> {
     let mut from: usize = 0;
-    let mut have: usize = 0;
     let mut index: u64 = 0;
-    let mut more = true;
-    let mut turns = u64::MAX;
-    while turns > 0 {
-        turns -= 1;
-        let p = dump_text::pass(index, &s[from..have], more, out);
-        let written = p.written;
-        if !say(streams, &out[0..written]) {
-            return false;
-        }
+    let mut f = Fetched {
+        have: 0,
+        more: true,
+    };
+    for _ in 0..u64::MAX {
+        let p = dump_text::pass(index, &s[from..f.have], f.more, out);
+        front.say(&out[..p.written])?;
         index = p.next;
         from += p.used;
         if p.used == 0 {
-            if !more {
-                return true;
+            if !f.more {
+                return Ok(());
             }
-            let f = front::refill(streams, input, s, from, have);
-            if let Some(why) = f.why {
-                front::cannot_read(streams, &NAME, name, why);
-                return true;
-            }
+            f = match front.refill(input, s, from, f.have) {
+                Ok(fetched) => fetched,
+                Err(why) => {
+                    front.cannot_read(name, why);
+                    return Ok(());
+                }
+            };
             from = 0;
-            have = f.have;
-            more = f.more;
         }
     }
-    true
+    Ok(())
 }
 
-// A reel, behind a heading where there are several.
-fn one(
-    streams: Streams,
-    input: &Input,
-    name: &[u8],
-    headed: bool,
-    s: &mut [u8],
-    out: &mut [u8],
-) -> bool {
-    if headed {
-        if !front::heading(streams, &NAME, name) {
-            return false;
-        }
-    }
-    run(streams, input, name, s, out)
-}
-
-// Dumps input i, if it can be opened, and tells whether standard output takes more.
+// Dumps input i, if it can be opened, behind a heading where there are several.
 fn dump<R: Env + Files<File = File>>(
+    front: &Front,
     rt: &R,
-    streams: Streams,
     inputs: Inputs,
     i: usize,
     arg: &mut [u8],
     s: &mut [u8],
     out: &mut [u8],
-) -> bool {
-    let input = front::open(rt, streams, &NAME, inputs, i, arg);
-    if !input.found {
-        return true;
+) -> Result<(), Closed> {
+    let Some(input) = front.open(rt, inputs, i, arg) else {
+        return Ok(());
+    };
+    let name = &arg[..input.name];
+    if 1 < inputs.count() {
+        front.heading(name)?;
     }
-    let n = input.name;
-    let more = one(streams, &input, &arg[0..n], 1 < inputs.count(), s, out);
-    front::close(input);
-    more
+    run(front, &input, name, s, out)
 }
 
 fn main(rt: HostRuntime) {
-    let streams = Streams {
+    let front = Front {
+        program: b"dump",
         input: rt.stdin(),
         output: rt.stdout(),
         errors: rt.stderr(),
@@ -95,10 +74,8 @@ fn main(rt: HostRuntime) {
     let mut arg = [0u8; 4096];
     let mut s = [0u8; 65536];
     let mut out = [0u8; 65536];
-    let asked = front::begin(
+    let Some(inputs) = front.begin(
         &rt,
-        streams,
-        &NAME,
         b"usage: dump [--] [FILE]..\n\
 Prints the frames of each reel, read from FILE, or from standard input where there is no FILE or FILE is -.\n\
 A line for each frame: its index, kind (0 if refused), refusal, place, then its arguments as decimals.\n\
@@ -107,12 +84,11 @@ Where there is more than one FILE, the lines of each follow a heading, ==> FILE 
 -h, --help  prints this\n\
 --version   prints the version\n",
         &mut arg,
-    );
-    let Asked::Work(inputs) = asked else {
+    ) else {
         return;
     };
     for i in 0..inputs.count() {
-        if !dump(&rt, streams, inputs, i, &mut arg, &mut s, &mut out) {
+        if dump(&front, &rt, inputs, i, &mut arg, &mut s, &mut out).is_err() {
             return;
         }
     }

@@ -2,11 +2,10 @@
 -- (`standard`, `dash`).
 -- Assumes nothing.
 use mathlib.Core.Path.{◌≡◌, refl}
-use mathlib.Core.Bool.{false, true}
 use mathlib.Core.List.{List, [], ◌∷◌}
 use Prim.Native.Nat.{ℕ}
-use Rattle.std.specs.Prelude.{None}
-use lib.IntN.{negsuc, pos}
+use Rattle.std.specs.Prelude.{Option, None, Some}
+use lib.IntN.{pos}
 use Rattle.front.specs.declared.Input.{Input}
 use Rattle.front.specs.Buffers.{called, span_of, standard_in}
 
@@ -22,8 +21,8 @@ unfolding span_of
 spans = refl
 
 -- descriptor 0; in a buffer of no bytes there is no input
-abbrev opened : List Input
-opened = record { found = true; fd = pos 0; name = 1; file = None } ∷ record { found = false; fd = negsuc 0; name = 0; file = None } ∷ []
+abbrev opened : List (Option Input)
+opened = Some (record { fd = pos 0; name = 1; file = None }) ∷ None ∷ []
 
 pub standard : (standard_in four ∷ standard_in [] ∷ []) ≡ opened
 unfolding standard_in

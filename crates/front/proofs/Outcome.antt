@@ -5,16 +5,16 @@ use Rattle.once.proofs.Once.{Once}
 use Rattle.front.proofs as front
 use Rattle.front.specs.contracts as contracts
 
-cannot-read-once : Once contracts.cannot_read.ended front.cannot_read.Reads.Pre front.cannot_read.Reads.Learnt
+cannot-read-once : Once contracts.Front.cannot_read.ended front.Front.cannot_read.Reads.Pre front.Front.cannot_read.Reads.Learnt
 cannot-read-once κs a h o u p q i = o
 
-wrong-input-once : Once contracts.wrong_input.ended front.wrong_input.Reads.Pre front.wrong_input.Reads.Learnt
+wrong-input-once : Once contracts.Front.wrong_input.ended front.Front.wrong_input.Reads.Pre front.Front.wrong_input.Reads.Learnt
 wrong-input-once κs a h o u p q i = o
 
-wrong-line-once : Once contracts.wrong_line.ended front.wrong_line.Reads.Pre front.wrong_line.Reads.Learnt
+wrong-line-once : Once contracts.Front.wrong_line.ended front.Front.wrong_line.Reads.Pre front.Front.wrong_line.Reads.Learnt
 wrong-line-once κs a h o u p q i = o
 
-wrong-call-once : Once contracts.wrong_call.ended front.wrong_call.Reads.Pre front.wrong_call.Reads.Learnt
+wrong-call-once : Once contracts.Front.wrong_call.ended front.Front.wrong_call.Reads.Pre front.Front.wrong_call.Reads.Learnt
 wrong-call-once κs a h o u p q i = o
 
 close-once : Once contracts.close.ended front.close.Reads.Pre front.close.Reads.Learnt

@@ -6,85 +6,71 @@ ghost use Rattle.std.specs.Prelude.{◌≤◌};
 
 use arguments::Inputs;
 use book::Answer;
-use front::{Asked, Input, Streams};
+use front::{Closed, Fetched, Front, Input};
 use playback::Cursor;
 use reel::Step;
 use std::fs::File;
 use std::io::Error;
 use std::rt::{Env, Files};
 
-// What a message begins with.
-const NAME: [u8; 4] = *b"play";
-
-// Writes to standard output, and tells whether it takes more.
-fn say(streams: Streams, text: &[u8]) -> bool {
-    front::say(streams, &NAME, text)
-}
-
 // ---- a report
 
 // A line for each frame of a reel.
-fn say_frames(streams: Streams, reel: &[u8], line: &mut [u8]) -> bool {
+fn say_frames(front: &Front, reel: &[u8], line: &mut [u8]) -> Result<(), Closed> {
     let mut place = reel::Cursor::new();
     let mut index: u64 = 0;
     while place.at < reel.len() {
         let step = place.step(reel);
         let Step::Frame { start, end, next } = step else {
-            return true;
+            return Ok(());
         };
         let n = report::frame(index, &reel[start..end], line);
-        if !say(streams, &line[0..n]) {
-            return false;
-        }
+        front.say(&line[0..n])?;
         place = next;
         index += 1;
     }
-    true
+    Ok(())
 }
 
 // The frames that the book holds, by a buffer that takes every reel of one.
-fn say_book(streams: Streams, book: &[u8], line: &mut [u8]) -> bool {
+fn say_book(front: &Front, book: &[u8], line: &mut [u8]) -> Result<(), Closed> {
     let mut reel = [0u8; book::LONGEST_REEL];
     let answer = book::replay(book, &mut reel);
     let Answer::Done(n) = answer else {
-        return true;
+        return Ok(());
     };
     if reel.len() < n {
-        return true;
+        return Ok(());
     }
-    say_frames(streams, &reel[0..n], line)
+    say_frames(front, &reel[0..n], line)
 }
 
-fn say_name(streams: Streams, name: &[u8]) -> bool {
-    if !say(streams, b"trace ") {
-        return false;
-    }
-    if !say(streams, name) {
-        return false;
-    }
-    say(streams, b"\n")
+fn say_name(front: &Front, name: &[u8]) -> Result<(), Closed> {
+    front.say(b"trace ")?;
+    front.say(name)?;
+    front.say(b"\n")
 }
 
-// What a playback came to: its name, its numbers, its book, and its fault if there is one. Tells whether standard output takes more.
-fn say_report(streams: Streams, name: &[u8], cursor: Cursor, book: &[u8], text: &mut [u8]) -> bool {
-    if !say_name(streams, name) {
-        return false;
-    }
+// What a playback came to: its name, its numbers, its book, and its fault if there is one.
+fn say_report(
+    front: &Front,
+    name: &[u8],
+    cursor: Cursor,
+    book: &[u8],
+    text: &mut [u8],
+) -> Result<(), Closed> {
+    say_name(front, name)?;
     let played = playback::end(cursor);
     let day = played.day;
     let answer = played.answer;
     let n = report::numbers(day, text);
-    if !say(streams, &text[0..n]) {
-        return false;
-    }
-    if !say_book(streams, book, text) {
-        return false;
-    }
+    front.say(&text[0..n])?;
+    say_book(front, book, text)?;
     let Answer::Refused(why) = answer else {
-        return true;
+        return Ok(());
     };
     let m = report::stopped(why.place() as u64, text);
-    say(streams, &text[0..m])
+    front.say(&text[0..m])
 }
 
 // ---- one trace
@@ -99,91 +85,54 @@ fn used_of(answer: Answer, n: usize) -> usize
     if used <= n { used } else { n }
 }
 
-// Whether no byte that may follow alters the day.
-fn is_done(cursor: Cursor, more: bool) -> bool {
-    if more {
-        playback::is_over(cursor)
-    } else {
-        true
-    }
-}
-
-// Where a playback stands, and why a read failed, if one did.
-#[derive(Drop)]
-struct Ran {
-    cursor: Cursor,
-    why: Option<Error>,
-}
-
 // Plays an input on the book, and reads no further than what alters the day. A read that fails ends the trace.
-// Nothing says that the input ends, so the turns are counted down from a number that no run uses up.
-fn run(streams: Streams, input: &Input, s: &mut [u8], book: &mut [u8]) -> Ran {
+// Nothing says that the input ends, so there are more turns than any run uses up.
+fn run(front: &Front, input: &Input, s: &mut [u8], book: &mut [u8]) -> Result<Cursor, Error> {
     let mut cursor = playback::start();
-    let mut from: usize = 0;
-    let mut have: usize = 0;
-    let mut more = true;
-    let mut why = None;
-    let mut turns = u64::MAX;
-    while turns > 0 {
-        turns -= 1;
-        let p = playback::pass(cursor, book, &s[from..have], more);
-        let next = p.cursor;
-        cursor = next;
-        if is_done(cursor, more) {
-            return Ran { cursor, why };
+    let mut f = Fetched {
+        have: 0,
+        more: true,
+    };
+    for _ in 0..u64::MAX {
+        let p = playback::pass(cursor, book, &s[..f.have], f.more);
+        cursor = p.cursor;
+        if !f.more || playback::is_over(cursor) {
+            break;
         }
         let answer = p.answer;
-        let f = front::refill(streams, input, s, from + used_of(answer, have - from), have);
-        from = 0;
-        have = f.have;
-        more = f.more;
-        why = f.why;
+        f = front.refill(input, s, used_of(answer, f.have), f.have)?;
     }
-    Ran { cursor, why }
+    Ok(cursor)
 }
 
-// Reports a trace. One that cannot be read to its end has no report.
-fn one(
-    streams: Streams,
-    input: &Input,
-    name: &[u8],
-    s: &mut [u8],
-    book: &mut [u8],
-    text: &mut [u8],
-) -> bool {
-    book::make(book);
-    let r = run(streams, input, s, book);
-    if let Some(why) = r.why {
-        front::cannot_read(streams, &NAME, name, why);
-        return true;
-    }
-    let cursor = r.cursor;
-    say_report(streams, name, cursor, book, text)
-}
-
-// Plays input i, if it can be opened, and tells whether standard output takes more.
+// Plays input i, if it can be opened, and reports it. A trace that cannot be read to its end has no report.
 fn play<R: Env + Files<File = File>>(
+    front: &Front,
     rt: &R,
-    streams: Streams,
     inputs: Inputs,
     i: usize,
     arg: &mut [u8],
     s: &mut [u8],
     book: &mut [u8],
     text: &mut [u8],
-) -> bool {
-    let input = front::open(rt, streams, &NAME, inputs, i, arg);
-    if !input.found {
-        return true;
+) -> Result<(), Closed> {
+    let Some(input) = front.open(rt, inputs, i, arg) else {
+        return Ok(());
+    };
+    let name = &arg[..input.name];
+    book::make(book);
+    match run(front, &input, s, book) {
+        Ok(cursor) => say_report(front, name, cursor, book, text),
+        Err(why) => {
+            front.cannot_read(name, why);
+            Ok(())
+        }
     }
-    let n = input.name;
-    let more = one(streams, &input, &arg[0..n], s, book, text);
-    front::close(input);
-    more
 }
 
 fn main(rt: HostRuntime) {
-    let streams = Streams {
+    let front = Front {
+        program: b"play",
         input: rt.stdin(),
         output: rt.stdout(),
         errors: rt.stderr(),
@@ -192,10 +141,8 @@ fn main(rt: HostRuntime) {
     let mut s = [0u8; 65536];
     let mut book = [0u8; 4096];
     let mut text = [0u8; 4096];
-    let asked = front::begin(
+    let Some(inputs) = front.begin(
         &rt,
-        streams,
-        &NAME,
         b"usage: play [--] [FILE]..\n\
 Plays each recorded trace on a fresh book of 4096 bytes and reports it. A trace is read from FILE, or from standard input where there is no FILE\n\
 or FILE is -. A report has a line for its trace, the records played, the puts accepted, the puts refused by each number, the answers skipped,\n\
@@ -203,14 +150,14 @@ the last reading of each kind, each frame that the book then holds (as dump prin
 -h, --help  prints this\n\
 --version   prints the version\n",
         &mut arg,
-    );
-    let Asked::Work(inputs) = asked else {
+    ) else {
         return;
     };
     for i in 0..inputs.count() {
-        if !play(
-            &rt, streams, inputs, i, &mut arg, &mut s, &mut book, &mut text,
-        ) {
+        let said = play(
+            &front, &rt, inputs, i, &mut arg, &mut s, &mut book, &mut text,
+        );
+        if said.is_err() {
             return;
         }
     }

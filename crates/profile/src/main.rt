@@ -3,64 +3,48 @@
 #![tactic(auto)]
 
 use arguments::Inputs;
-use front::{Asked, Streams};
+use front::{Closed, Front};
 use std::fs::File;
 use std::rt::{Env, Files};
-
-// What a message begins with.
-const NAME: [u8; 7] = *b"profile";
 
 // A byte more than the longest book has, so that a longer one is told without being read whole.
 const READ: usize = 4097;
 
-// Writes to standard output, and tells whether it takes more.
-fn say(streams: Streams, text: &[u8]) -> bool {
-    front::say(streams, &NAME, text)
-}
-
-// A line with the book's name and its answer. Tells whether standard output takes more.
-fn say_answer(streams: Streams, name: &[u8], book: &[u8]) -> bool {
+// A line with the book's name and its answer.
+fn say_answer(front: &Front, name: &[u8], book: &[u8]) -> Result<(), Closed> {
     let mut text = [0u8; profile_text::LONGEST];
     let n = profile_text::answer(locker_profile::check(book), &mut text);
-    if !say(streams, name) {
-        return false;
-    }
-    if !say(streams, b" ") {
-        return false;
-    }
-    say(streams, &text[0..n])
+    front.say(name)?;
+    front.say(b" ")?;
+    front.say(&text[0..n])
 }
 
-// Answers input i, if it can be read, and tells whether standard output takes more.
+// Answers input i, if it can be read.
 fn answer<R: Env + Files<File = File>>(
+    front: &Front,
     rt: &R,
-    streams: Streams,
     inputs: Inputs,
     i: usize,
     arg: &mut [u8],
     s: &mut [u8],
-) -> bool {
-    let content = front::read(rt, streams, &NAME, inputs, i, arg, s);
-    if !content.found {
-        return true;
-    }
-    let n = content.name;
-    let have = content.have;
-    say_answer(streams, &arg[0..n], &s[0..have])
+) -> Result<(), Closed> {
+    let Some(content) = front.read(rt, inputs, i, arg, s) else {
+        return Ok(());
+    };
+    say_answer(front, &arg[..content.name], &s[..content.have])
 }
 
 fn main(rt: HostRuntime) {
-    let streams = Streams {
+    let front = Front {
+        program: b"profile",
         input: rt.stdin(),
         output: rt.stdout(),
         errors: rt.stderr(),
     };
     let mut arg = [0u8; 4096];
     let mut s = [0u8; READ];
-    let asked = front::begin(
+    let Some(inputs) = front.begin(
         &rt,
-        streams,
-        &NAME,
         b"usage: profile [--] [FILE]..\n\
 Tells of each book whether it keeps the locker profile, the rules for the LoRa settings of banks. A book's bytes are read from FILE, or from\n\
 standard input where there is no FILE or FILE is -. Each has a line: its name, which is - for standard input, and yes, or the first rule that\n\
@@ -72,12 +56,11 @@ and off elsewhere.\n\
 -h, --help  prints this\n\
 --version   prints the version\n",
         &mut arg,
-    );
-    let Asked::Work(inputs) = asked else {
+    ) else {
         return;
     };
     for i in 0..inputs.count() {
-        if !answer(&rt, streams, inputs, i, &mut arg, &mut s) {
+        if answer(&front, &rt, inputs, i, &mut arg, &mut s).is_err() {
             return;
         }
     }

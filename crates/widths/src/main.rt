@@ -3,76 +3,41 @@
 #![tactic(auto)]
 
 use bank_list::{Fault, Found};
-use front::{Asked, Streams};
-
-// What a message begins with.
-const NAME: [u8; 6] = *b"widths";
+use front::Front;
 
 // A byte more than the longest list has, so that a longer one is told without being read whole.
 const READ: usize = 65537;
 
-fn wrong_line(streams: Streams, name: &[u8], line: usize, fault: Fault) {
-    match fault {
-        Fault::NotABank => {
-            front::wrong_line(
-                streams,
-                &NAME,
-                name,
-                line,
-                b"not a need, nor a need and a code",
-            );
-        }
-        Fault::NeedPast => {
-            front::wrong_line(
-                streams,
-                &NAME,
-                name,
-                line,
-                b"a need past 18446744073709551615",
-            );
-        }
-        Fault::CodePast => {
-            front::wrong_line(streams, &NAME, name, line, b"a code above 255");
-        }
-        Fault::CodeLacking => {
-            front::wrong_line(
-                streams,
-                &NAME,
-                name,
-                line,
-                b"no code, though an earlier bank has one",
-            );
-        }
-        Fault::CodeSurplus => {
-            front::wrong_line(
-                streams,
-                &NAME,
-                name,
-                line,
-                b"a code, though an earlier bank has none",
-            );
-        }
-    }
+fn wrong_line(front: &Front, name: &[u8], line: usize, fault: Fault) {
+    let what: &[u8] = match fault {
+        Fault::NotABank => b"not a need, nor a need and a code",
+        Fault::NeedPast => b"a need past 18446744073709551615",
+        Fault::CodePast => b"a code above 255",
+        Fault::CodeLacking => b"no code, though an earlier bank has one",
+        Fault::CodeSurplus => b"a code, though an earlier bank has none",
+    };
+    front.wrong_line(name, line, what);
 }
 
 // The answer to a list, or what is wrong with it.
-fn answer(streams: Streams, name: &[u8], text: &[u8], out: &mut [u8]) {
+fn answer(front: &Front, name: &[u8], text: &[u8], out: &mut [u8]) {
     if text.len() == READ {
-        front::wrong_input(streams, &NAME, name, b"more than 65536 bytes");
+        front.wrong_input(name, b"more than 65536 bytes");
         return;
     }
     let list = bank_list::read(text);
     let found = list.found;
     if let Found::Wrong { line, fault } = found {
-        wrong_line(streams, name, line, fault);
+        wrong_line(front, name, line, fault);
         return;
     }
     let n = widths_text::answer(list, out);
-    front::say(streams, &NAME, &out[0..n]);
+    let _ = front.say(&out[0..n]);
 }
 
 fn main(rt: HostRuntime) {
-    let streams = Streams {
+    let front = Front {
+        program: b"widths",
         input: rt.stdin(),
         output: rt.stdout(),
         errors: rt.stderr(),
@@ -80,10 +45,8 @@ fn main(rt: HostRuntime) {
     let mut arg = [0u8; 4096];
     let mut s = [0u8; READ];
     let mut out = [0u8; 4096];
-    let asked = front::begin(
+    let Some(inputs) = front.begin(
         &rt,
-        streams,
-        &NAME,
         b"usage: widths [--] [FILE]\n\
 Finds for each bank the narrowest FSK receive width that is at least its need, or judges the codes proposed. A list is read from FILE, or from standard\n\
 input where there is no FILE or FILE is -. It has a line for each of 1 to 32 banks: its need in whole Hz, or its need and a code, with a blank, a tab\n\
@@ -94,18 +57,14 @@ With codes: ok, or the first bank that is refused, and for 20 a line with its ri
 -h, --help  prints this\n\
 --version   prints the version\n",
         &mut arg,
-    );
-    let Asked::Work(inputs) = asked else {
+    ) else {
         return;
     };
     if 1 < inputs.count() {
-        front::wrong_call(streams, &NAME, b"one list at a time");
+        front.wrong_call(b"one list at a time");
         return;
     }
-    let content = front::read(&rt, streams, &NAME, inputs, 0, &mut arg, &mut s);
-    if content.found {
-        let n = content.name;
-        let have = content.have;
-        answer(streams, &arg[0..n], &s[0..have], &mut out);
+    if let Some(content) = front.read(&rt, inputs, 0, &mut arg, &mut s) {
+        answer(&front, &arg[..content.name], &s[..content.have], &mut out);
     }
 }

@@ -1,9 +1,5 @@
--- the measure is the turns that are left
 use Rattle.std.proofs.Common.{◌≡◌, ◌≤◌, length}
 use Rattle.dump.proofs.run.Given as goal
 
-abbrev pub invariant-loop-turns : goal.invariant-loop-turns
-invariant-loop-turns l = (l.from ≤ l.have) × (l.have ≤ length l.s) × (length l.s ≡ length l.fn.s) × (length l.out ≡ length l.fn.out)
-
-abbrev pub decreases-loop-turns : goal.decreases-loop-turns
-decreases-loop-turns l = l.turns
+abbrev pub invariant-loop : goal.invariant-loop
+invariant-loop l = (l.from ≤ l.f.have) × (l.f.have ≤ length l.s) × (length l.s ≡ length l.fn.s)

@@ -8,5 +8,5 @@ returns-then-i-names c = c.argument.ensures ∙ place-named _ _ _ (omega arith)
 pub returns-then-i-eq0 : goal.returns-then-i-eq0
 returns-then-i-eq0 c = place-first _ _ _ (omega arith) (omega arith)
 
-pub returns : goal.returns
-returns c = place-past _ _ _ (omega arith) (omega arith)
+pub returns-else-i-eq0 : goal.returns-else-i-eq0
+returns-else-i-eq0 c = place-past _ _ _ (omega arith) (omega arith)

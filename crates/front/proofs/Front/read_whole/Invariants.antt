@@ -1,5 +1,5 @@
 use Rattle.std.proofs.Common.{◌-◌, ◌≤◌, length}
-use Rattle.front.proofs.read_whole.Given as goal
+use Rattle.front.proofs.Front.read_whole.Given as goal
 
 abbrev pub invariant-loop-have : goal.invariant-loop-have
 invariant-loop-have l = l.have ≤ length l.s
