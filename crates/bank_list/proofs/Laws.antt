@@ -10,14 +10,12 @@ use native.Mathlib.Omega.{arith}
 use borrow.Author.Tests.{ltb-true}
 use lib.Dec.{eqb, ltb}
 use lib.ListN.{drop, get_or, length, take}
-use Rattle.bank_list.specs.declared.Class.TheVariants.{Digit, Separator}
 use Rattle.bank_list.specs.declared.Fault.{Fault}
 use Rattle.bank_list.specs.declared.Fault.TheVariants.{CodePast, NotABank}
 use Rattle.bank_list.specs.declared.Line.{Line}
 use Rattle.bank_list.specs.declared.Line.TheVariants.{Skipped, Need, Proposal, Wrong}
-use Rattle.bank_list.specs.declared.Number.{Number}
-use Rattle.bank_list.specs.declared.Number.TheVariants.{Is, Past}
-use Rattle.bank_list.specs.Lines.{body_of, is_number, is_of, leading_of, lines_of, number_of, numbered}
+use Rattle.std.specs.Prelude.{Option, Some, None}
+use Rattle.bank_list.specs.Lines.{body_of, is_number, is_digit, is_separator, leading_of, lines_of, number_of, numbered}
 use Rattle.bank_list.specs.Lines.{bank_of, behind_need, line_of, need_said, proposal_said, skips}
 use Rattle.bank_list.specs.Banks.{Paired, Parsed, after_line, banks, faulty, parsed, parsed_from}
 use Rattle.bank_list.proofs.States.{apart, paired-after}
@@ -53,9 +51,9 @@ pub record Bounded (ns cs : List ℕ) : Type 0 where
   pub needs : Below (2 ^ 64) ns
   pub codes : Below 256 cs
 
-abbrev NumberBounded : Number → Type 0
-NumberBounded (Is n) = n < 2 ^ 64
-NumberBounded Past = Unit {0}
+abbrev NumberBounded : Option ℕ → Type 0
+NumberBounded (Some n) = n < 2 ^ 64
+NumberBounded None = Unit {0}
 
 abbrev LineBounded : Line → Type 0
 LineBounded Skipped = Unit {0}
@@ -74,33 +72,33 @@ picked false a b x y = y
 numbered-bounded : (n : ℕ) → NumberBounded (numbered n)
 numbered-bounded n = go (ltb n (2 ^ 64)) refl
   where
-    go : (t : Bool) → ltb n (2 ^ 64) ≡ t → NumberBounded (cond t (Is n) Past)
+    go : (t : Bool) → ltb n (2 ^ 64) ≡ t → NumberBounded (cond t (Some n) None)
     go true e = ltb-true n (2 ^ 64) e
     go false e = tt
 
-need-bounded : (n : Number) → NumberBounded n → LineBounded (need_said n)
-need-bounded (Is n) h = h
-need-bounded Past h = tt
+need-bounded : (n : Option ℕ) → NumberBounded n → LineBounded (need_said n)
+need-bounded (Some n) h = h
+need-bounded None h = tt
 
-proposal-bounded : (n c : Number) → NumberBounded n → LineBounded (proposal_said n c)
-proposal-bounded Past c h = tt
-proposal-bounded (Is n) Past h = tt
-proposal-bounded (Is n) (Is c) h = go (ltb c 256) refl
+proposal-bounded : (n c : Option ℕ) → NumberBounded n → LineBounded (proposal_said n c)
+proposal-bounded None c h = tt
+proposal-bounded (Some n) None h = tt
+proposal-bounded (Some n) (Some c) h = go (ltb c 256) refl
   where
     go : (t : Bool) → ltb c 256 ≡ t → LineBounded (cond t (Proposal n c) (Wrong CodePast))
     go true e = (h, ltb-true c 256 e)
     go false e = tt
 
-behind-bounded : (n : Number) (s : List ℕ) → NumberBounded n → LineBounded (behind_need n s)
+behind-bounded : (n : Option ℕ) (s : List ℕ) → NumberBounded n → LineBounded (behind_need n s)
 behind-bounded n [] h = need-bounded n h
 behind-bounded n (b ∷ s) h =
-    picked (is_of Separator b && is_number s) (proposal_said n (numbered (number_of s))) (Wrong NotABank) (proposal-bounded n (numbered (number_of s)) h) tt
+    picked (is_separator b && is_number s) (proposal_said n (numbered (number_of s))) (Wrong NotABank) (proposal-bounded n (numbered (number_of s)) h) tt
 
 line-bounded : (l : List ℕ) → LineBounded (line_of l)
 unfolding line_of bank_of
 line-bounded l =
-    let d : ℕ = leading_of Digit l in
-    let n : Number = numbered (number_of (take d l)) in
+    let d : ℕ = leading_of is_digit l in
+    let n : Option ℕ = numbered (number_of (take d l)) in
     picked (skips l) Skipped (bank_of l) tt
     (picked (eqb d 0) (Wrong NotABank) (behind_need n (drop d l)) tt (behind-bounded n (drop d l) (numbered-bounded (number_of (take d l)))))
 

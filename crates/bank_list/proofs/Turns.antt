@@ -10,17 +10,16 @@ use native.Mathlib.Omega.{arith}
 use lib.Dec.{eqb}
 use lib.ListN.{drop, drop_of_length-le, length, length-drop, take}
 use lib.Seq.{drop-drop}
-use Rattle.bank_list.specs.declared.Class.TheVariants.{Inside}
 use Rattle.bank_list.specs.declared.Found.TheVariants.{Needs}
 use Rattle.bank_list.specs.declared.Line.{Line}
 use Rattle.bank_list.specs.declared.Listed.{Listed}
-use Rattle.bank_list.specs.Lines.{body_of, leading_of, line_of, lines_of, onto}
+use Rattle.bank_list.specs.Lines.{body_of, is_inside, leading_of, line_of, lines_of, onto}
 use Rattle.bank_list.specs.Banks.{Paired, Parsed, after_line, banks, empty_of, listed, parsed, parsed_from}
 use Rattle.bank_list.proofs.States.{paired-after}
 
 -- the first line is what stands before the first newline
 lines-first : (b : ℕ) (s : List ℕ)
-    → lines_of (b ∷ s) ≡ take (leading_of Inside (b ∷ s)) (b ∷ s) ∷ lines_of (drop (suc (leading_of Inside (b ∷ s))) (b ∷ s))
+    → lines_of (b ∷ s) ≡ take (leading_of is_inside (b ∷ s)) (b ∷ s) ∷ lines_of (drop (suc (leading_of is_inside (b ∷ s))) (b ∷ s))
 unfolding lines_of leading_of
 lines-first b [] = go (eqb b 10)
   where
@@ -31,7 +30,7 @@ lines-first b [] = go (eqb b 10)
 lines-first b (d ∷ s) = go (eqb b 10) (lines-first d s)
   where
     n : ℕ
-    n = leading_of Inside (d ∷ s)
+    n = leading_of is_inside (d ∷ s)
 
     go : (t : Bool) → lines_of (d ∷ s) ≡ take n (d ∷ s) ∷ lines_of (drop (suc n) (d ∷ s))
         → cond t ([] ∷ lines_of (d ∷ s)) (onto b (lines_of (d ∷ s)))
@@ -56,14 +55,14 @@ module _ (text : List ℕ) (l : Listed) (done at : ℕ) (g : Going text l done a
   unfolding parsed_from lines_of
   going_end h = g.shown ∙ ap listed (sym (g.left ∙ rw (drop_of_length-le text {i = at} h)))
 
-  module _ (n : ℕ) (e : n ≡ leading_of Inside (drop at text)) (h : at < length text) where
+  module _ (n : ℕ) (e : n ≡ leading_of is_inside (drop at text)) (h : at < length text) where
     first : lines_of (drop at text) ≡ take n (drop at text) ∷ lines_of (drop (at + n + 1) text)
     first = go (drop at text) refl
       where
         go : (s : List ℕ) → drop at text ≡ s → lines_of (drop at text) ≡ take n (drop at text) ∷ lines_of (drop (at + n + 1) text)
         go [] q = absurd (omega (arith, length-drop at text, ap length q))
         go (b ∷ s) q =
-            let m : n ≡ leading_of Inside (b ∷ s) = e ∙ ap (leading_of Inside) q in
+            let m : n ≡ leading_of is_inside (b ∷ s) = e ∙ ap (leading_of is_inside) q in
             let far : at + suc n ≡ at + n + 1 = omega arith in
             ap lines_of q
             ∙ lines-first b s

@@ -1,11 +1,7 @@
 -- What a line of a list of banks is, and what it says (REFERENCE, "Widths for banks").
 -- Assumes nothing.
-use Rattle.std.specs.Prelude.{ℕ, suc, ◌+◌, ◌*◌, ◌-◌, ◌^◌, Bool, cond, not, ◌&&◌, ◌||◌, List, [], ◌∷◌, eqb, leb, ltb, length, get_or, take, drop}
+use Rattle.std.specs.Prelude.{ℕ, suc, ◌+◌, ◌*◌, ◌-◌, ◌^◌, Bool, cond, not, ◌&&◌, ◌||◌, List, [], ◌∷◌, eqb, leb, ltb, length, get_or, take, drop, Option, Some, None}
 use Rattle.bank_list.specs.declared.Fault.TheVariants.{NotABank, NeedPast, CodePast}
-use Rattle.bank_list.specs.declared.Class.{Class}
-use Rattle.bank_list.specs.declared.Class.TheVariants.{Digit, Blank, Separator, Inside}
-use Rattle.bank_list.specs.declared.Number.{Number}
-use Rattle.bank_list.specs.declared.Number.TheVariants.{Is, Past}
 use Rattle.bank_list.specs.declared.Line.{Line}
 use Rattle.bank_list.specs.declared.Line.TheVariants.{Skipped, Need, Proposal, Wrong}
 
@@ -31,23 +27,32 @@ body_of l = take (body_length l) l
 
 -- ---- bytes
 
--- digits, 48 to 57; a blank, 32, or a tab, 9; what may stand between two numbers, one of these or a comma, 44; all but a newline
-abbrev pub is_of : Class → ℕ → Bool
-is_of Digit b = leb 48 b && leb b 57
-is_of Blank b = eqb b 32 || eqb b 9
-is_of Separator b = eqb b 32 || (eqb b 9 || eqb b 44)
-is_of Inside b = not (eqb b 10)
+-- digits, 48 to 57
+abbrev pub is_digit : ℕ → Bool
+is_digit b = leb 48 b && leb b 57
 
--- how many bytes of a class bytes begin with
-unfoldable pub leading_of : Class → List ℕ → ℕ
-leading_of k [] = 0
-leading_of k (b ∷ s) = cond (is_of k b) (suc (leading_of k s)) 0
+-- a blank, 32, or a tab, 9
+abbrev pub is_blank : ℕ → Bool
+is_blank b = eqb b 32 || eqb b 9
+
+-- what may stand between two numbers: one of these, or a comma, 44
+abbrev pub is_separator : ℕ → Bool
+is_separator b = eqb b 32 || (eqb b 9 || eqb b 44)
+
+-- all but a newline
+abbrev pub is_inside : ℕ → Bool
+is_inside b = not (eqb b 10)
+
+-- how many bytes that pass a test bytes begin with
+unfoldable pub leading_of : (ℕ → Bool) → List ℕ → ℕ
+leading_of p [] = 0
+leading_of p (b ∷ s) = cond (p b) (suc (leading_of p s)) 0
 
 -- ---- numbers
 
 -- a number is a digit or more, and nothing else
 abbrev pub is_number : List ℕ → Bool
-is_number s = not (eqb (leading_of Digit s) 0) && eqb (leading_of Digit s) (length s)
+is_number s = not (eqb (leading_of is_digit s) 0) && eqb (leading_of is_digit s) (length s)
 
 -- v, with digits behind it
 unfoldable pub number_from : ℕ → List ℕ → ℕ
@@ -59,36 +64,36 @@ abbrev pub number_of : List ℕ → ℕ
 number_of s = number_from 0 s
 
 -- a number of 64 bits, or one past them
-abbrev pub numbered : ℕ → Number
-numbered n = cond (ltb n (2 ^ 64)) (Is n) Past
+abbrev pub numbered : ℕ → Option ℕ
+numbered n = cond (ltb n (2 ^ 64)) (Some n) None
 
 -- ---- what a line says
 
 -- a need alone
-abbrev pub need_said : Number → Line
-need_said (Is n) = Need n
-need_said Past = Wrong NeedPast
+abbrev pub need_said : Option ℕ → Line
+need_said (Some n) = Need n
+need_said None = Wrong NeedPast
 
 -- a need and a code, which is a byte: the need is judged first
-abbrev pub proposal_said : Number → Number → Line
-proposal_said Past c = Wrong NeedPast
-proposal_said (Is n) Past = Wrong CodePast
-proposal_said (Is n) (Is c) = cond (ltb c 256) (Proposal n c) (Wrong CodePast)
+abbrev pub proposal_said : Option ℕ → Option ℕ → Line
+proposal_said None c = Wrong NeedPast
+proposal_said (Some n) None = Wrong CodePast
+proposal_said (Some n) (Some c) = cond (ltb c 256) (Proposal n c) (Wrong CodePast)
 
 -- behind the need stands nothing, or one separator and the code
-abbrev pub behind_need : Number → List ℕ → Line
+abbrev pub behind_need : Option ℕ → List ℕ → Line
 behind_need n [] = need_said n
-behind_need n (b ∷ s) = cond (is_of Separator b && is_number s) (proposal_said n (numbered (number_of s))) (Wrong NotABank)
+behind_need n (b ∷ s) = cond (is_separator b && is_number s) (proposal_said n (numbered (number_of s))) (Wrong NotABank)
 
 -- A bank's line begins with the digits of its need.
 unfoldable pub bank_of : List ℕ → Line
 bank_of l =
-    cond (eqb (leading_of Digit l) 0) (Wrong NotABank)
-    (behind_need (numbered (number_of (take (leading_of Digit l) l))) (drop (leading_of Digit l) l))
+    cond (eqb (leading_of is_digit l) 0) (Wrong NotABank)
+    (behind_need (numbered (number_of (take (leading_of is_digit l) l))) (drop (leading_of is_digit l) l))
 
 -- A line of blanks alone, or of nothing, is skipped, and one that begins with '#', 35.
 unfoldable pub skips : List ℕ → Bool
-skips l = eqb (leading_of Blank l) (length l) || eqb (get_or l 0 0) 35
+skips l = eqb (leading_of is_blank l) (length l) || eqb (get_or l 0 0) 35
 
 -- what a line says, without its carriage return
 unfoldable pub line_of : List ℕ → Line

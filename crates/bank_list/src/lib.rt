@@ -2,8 +2,9 @@
 // specs/Lines.antt says what a line is and what it says, specs/Banks.antt what the lines of a text give together.
 #![tactic(auto)]
 
-ghost use Rattle.std.specs.Prelude.{◌≡◌, ◌+◌, ◌-◌, min};
-ghost use Rattle.bank_list.specs.Lines.{body_length, body_of, is_number, is_of, leading_of, number_of, numbered};
+ghost use Rattle.std.specs.Prelude.{◌≡◌, ◌+◌, ◌*◌, ◌-◌, min};
+ghost use Rattle.std.specs.List.{list_all, prefix_len};
+ghost use Rattle.bank_list.specs.Lines.{body_length, body_of, is_blank, is_digit, is_inside, is_number, is_separator, number_of, numbered};
 ghost use Rattle.bank_list.specs.Lines.{bank_of, line_of, need_said, proposal_said, skips};
 ghost use Rattle.bank_list.specs.Banks.{Paired, Parsed, after_line, empty_of, listed, most_kept, parsed, put_at};
 
@@ -37,22 +38,6 @@ pub struct Listed {
     pub codes: [u8; 33],
 }
 
-// What a byte is looked at for.
-#[derive(Clone, Copy)]
-enum Class {
-    Digit,
-    Blank,
-    Separator,
-    Inside,
-}
-
-// A number of 64 bits, or one past them.
-#[derive(Clone, Copy)]
-enum Number {
-    Is(u64),
-    Past,
-}
-
 // What a line says.
 #[derive(Drop)]
 enum Line {
@@ -64,104 +49,84 @@ enum Line {
 
 // ---- bytes and numbers
 
-fn is_of(class: Class, b: u8) -> bool
-    ensures { result ≡ is_of class b }
+fn is_digit(b: u8) -> bool
+    ensures { result ≡ is_digit b }
 {
-    match class {
-        Class::Digit => {
-            if b < b'0' {
-                return false;
-            }
-            b <= b'9'
-        }
-        Class::Blank => {
-            if b == b' ' {
-                return true;
-            }
-            b == b'\t'
-        }
-        Class::Separator => {
-            if b == b' ' {
-                return true;
-            }
-            if b == b'\t' {
-                return true;
-            }
-            b == b','
-        }
-        Class::Inside => b != b'\n',
-    }
+    b'0' <= b && b <= b'9'
 }
 
-// How many bytes of a class stand at the start.
-fn leading(class: Class, s: &[u8]) -> usize
-    ensures { result ≡ leading_of class s.now }
+fn is_blank(b: u8) -> bool
+    ensures { result ≡ is_blank b }
 {
-    let mut n: usize = 0;
-    while n < s.len() {
-        if is_of(class, s[n]) {
-            n += 1;
-        } else {
-            return n;
-        }
-    }
-    n
+    b == b' ' || b == b'\t'
 }
 
-fn digit_value(b: u8) -> u64
-    ensures { result ≡ b - 48 }
+// What may stand between two numbers.
+fn is_separator(b: u8) -> bool
+    ensures { result ≡ is_separator b }
 {
-    if b < b'0' {
-        return 0;
-    }
-    (b - b'0') as u64
+    is_blank(b) || b == b','
 }
 
-// The number that digits say, tested before it grows, since it may not go past 64 bits.
-fn number_of(digits: &[u8]) -> Number
+// How many digits stand at the start.
+fn digits(s: &[u8]) -> usize
+    ensures { result ≡ prefix_len is_digit s.now }
+{
+    s.iter().take_while(|b| is_digit(**b)).count()
+}
+
+// How many bytes stand before the first newline.
+fn line_length(s: &[u8]) -> usize
+    ensures { result ≡ prefix_len is_inside s.now }
+{
+    s.iter().take_while(|b| **b != b'\n').count()
+}
+
+// A number with a digit more, or that it is past 64 bits.
+fn with_digit(value: u64, digit: u8) -> Option<u64>
+    ensures { result ≡ numbered (10 * value + (digit - 48)) }
+{
+    value
+        .checked_mul(10)?
+        .checked_add(digit.saturating_sub(b'0') as u64)
+}
+
+// The number that digits say.
+fn number_of(digits: &[u8]) -> Option<u64>
     ensures { result ≡ numbered (number_of digits.now) }
 {
     let mut value: u64 = 0;
-    let mut i: usize = 0;
-    while i < digits.len() {
-        let d = digit_value(digits[i]);
-        if (u64::MAX - d) / 10 < value {
-            return Number::Past;
-        }
-        value = 10 * value + d;
-        i += 1;
+    for digit in digits {
+        value = with_digit(value, *digit)?;
     }
-    Number::Is(value)
+    Some(value)
 }
 
 fn is_number(s: &[u8]) -> bool
     ensures { result ≡ is_number s.now }
 {
-    let n = leading(Class::Digit, s);
-    if n == 0 {
-        return false;
-    }
-    n == s.len()
+    let n = digits(s);
+    n != 0 && n == s.len()
 }
 
 // ---- lines
 
-fn need_said(need: Number) -> Line
+fn need_said(need: Option<u64>) -> Line
     ensures { result ≡ need_said need }
 {
     match need {
-        Number::Is(n) => Line::Need(n),
-        Number::Past => Line::Wrong(Fault::NeedPast),
+        Some(n) => Line::Need(n),
+        None => Line::Wrong(Fault::NeedPast),
     }
 }
 
-fn proposal_said(need: Number, code: Number) -> Line
+fn proposal_said(need: Option<u64>, code: Option<u64>) -> Line
     ensures { result ≡ proposal_said need code }
 {
-    let Number::Is(n) = need else {
+    let Some(n) = need else {
         return Line::Wrong(Fault::NeedPast);
     };
-    let Number::Is(c) = code else {
+    let Some(c) = code else {
         return Line::Wrong(Fault::CodePast);
     };
     if c < 256 {
@@ -174,53 +139,47 @@ fn proposal_said(need: Number, code: Number) -> Line
 fn bank_said(body: &[u8]) -> Line
     ensures { result ≡ bank_of body.now }
 {
-    let d = leading(Class::Digit, body);
+    let d = digits(body);
     if d == 0 {
         return Line::Wrong(Fault::NotABank);
     }
-    let need = number_of(&body[0..d]);
-    if d == body.len() {
+    let need = number_of(&body[..d]);
+    let Some((between, code)) = body[d..].split_first() else {
         return need_said(need);
-    }
-    if is_of(Class::Separator, body[d]) {
-        let from = d + 1;
-        let code = &body[from..];
-        if is_number(code) {
-            return proposal_said(need, number_of(code));
-        }
-        return Line::Wrong(Fault::NotABank);
+    };
+    if is_separator(*between) && is_number(code) {
+        return proposal_said(need, number_of(code));
     }
     Line::Wrong(Fault::NotABank)
+}
+
+fn all_blank(s: &[u8]) -> bool
+    ensures { result ≡ list_all is_blank s.now }
+{
+    s.iter().all(|b| is_blank(*b))
 }
 
 fn is_skipped(body: &[u8]) -> bool
     ensures { result ≡ skips body.now }
 {
-    if leading(Class::Blank, body) == body.len() {
-        return true;
-    }
-    body[0] == b'#'
+    all_blank(body) || body[0] == b'#'
 }
 
 // How long a line is without the carriage return that it may end in.
 fn body_length(line: &[u8]) -> usize
     ensures { result ≡ body_length line.now }
 {
-    if line.len() == 0 {
-        return 0;
+    match line.last() {
+        Some(b'\r') => line.len() - 1,
+        _ => line.len(),
     }
-    let last = line.len() - 1;
-    if line[last] == b'\r' {
-        return last;
-    }
-    line.len()
 }
 
 fn line_said(line: &[u8]) -> Line
     ensures { result ≡ line_of (body_of line.now) }
 {
     let n = body_length(line);
-    let body = &line[0..n];
+    let body = &line[..n];
     if is_skipped(body) {
         return Line::Skipped;
     }
@@ -233,10 +192,7 @@ fn line_said(line: &[u8]) -> Line
 fn one_more(count: usize) -> usize
     ensures { result ≡ min (count + 1) most_kept }
 {
-    if count < KEPT {
-        return count + 1;
-    }
-    KEPT
+    if count < KEPT { count + 1 } else { KEPT }
 }
 
 // A bank at its place; one that has no place is not kept.
@@ -248,11 +204,6 @@ fn put(l: Listed, found: Found, at: usize, need: u64, code: u8) -> Listed
     if at < KEPT {
         needs[at] = need;
         codes[at] = code;
-        return Listed {
-            found,
-            needs,
-            codes,
-        };
     }
     Listed {
         found,
@@ -340,9 +291,9 @@ pub fn read(text: &[u8]) -> Listed
     let mut at: usize = 0;
     while at < text.len() {
         let rest = &text[at..];
-        let n = leading(Class::Inside, rest);
+        let n = line_length(rest);
         done += 1;
-        let next = after_line(l, done, line_said(&rest[0..n]));
+        let next = after_line(l, done, line_said(&rest[..n]));
         l = next;
         at += n;
         if at < text.len() {

@@ -5,9 +5,8 @@
 use mathlib.Core.Path.{◌≡◌, refl, sym, ap, ◌∙◌}
 use mathlib.Core.Bool.{Bool, true, false, cond, ◌&&◌, false≢true}
 use mathlib.Core.List.{List, [], ◌∷◌, ◌++◌, append-nil}
-use Prim.Native.Nat.{ℕ, zero, suc, ◌+◌, ◌-◌, ◌≤◌, ◌<◌}
+use Prim.Native.Nat.{ℕ, zero, suc, ◌+◌, ◌≤◌, ◌<◌}
 use native.Mathlib.Numerals.{add-one}
-use native.Mathlib.Nat.{sub-zero}
 use native.Mathlib.Omega.{arith}
 use borrow.Author.Tests.{eq-eqb, eqb-true, le-leb, leb-true}
 use lib.Dec.{eqb, leb}
@@ -17,10 +16,7 @@ use Rattle.refusal.specs.declared.Refusal.{Refusal}
 use Rattle.refusal.specs.declared.Refusal.TheVariants.{NoWidth, NotNarrowest, ListLength}
 use Rattle.spans.specs.Spans.{written}
 use Rattle.rx_bw.proofs.Names.{both}
-use Rattle.bank_widths.specs.declared.Answer.{Answer}
-use Rattle.bank_widths.specs.declared.Answer.TheVariants.{Done, Refused}
-use Rattle.bank_widths.specs.declared.Choice.{Choice}
-use Rattle.bank_widths.specs.declared.Choice.TheVariants.{Code, None}
+use Rattle.std.specs.Prelude.{Option, Some, None, Result, Ok, Err, is_ok, is_some, unwrap_or}
 use Rattle.width_rule.specs.Rule.{is_right, is_served, right_for}
 use Rattle.bank_widths.specs.Lists.{found, found_in, if_done, judged, judged_from, lengths_right, right_codes}
 use Rattle.bank_widths.specs.Keys.{choice_for}
@@ -29,33 +25,25 @@ use Rattle.bank_widths.proofs.Search.{served-right}
 
 -- ---- what a choice says of its bank
 
-is_code : Choice → Bool
-is_code (Code c) = true
-is_code None = false
-
-code_in : Choice → ℕ
-code_in (Code c) = c
-code_in None = 0
-
 module _ (need : ℕ) where
-  pub choice-served : (c : ℕ) → choice_for need ≡ Code c → is_served need ≡ true
-  unfolding choice_for is_code
+  pub choice-served : (c : ℕ) → choice_for need ≡ Some c → is_served need ≡ true
+  unfolding choice_for
   choice-served c e = by (is_served need) refl e
     where
-      by : (s : Bool) → is_served need ≡ s → cond s (Code (right_for need)) None ≡ Code c → is_served need ≡ true
+      by : (s : Bool) → is_served need ≡ s → cond s (Some (right_for need)) None ≡ Some c → is_served need ≡ true
       by true p q = p
-      by false p q = absurd (false≢true (ap is_code q))
+      by false p q = absurd (false≢true (ap is_some q))
 
-  pub choice-right : (c : ℕ) → choice_for need ≡ Code c → right_for need ≡ c
-  unfolding choice_for code_in
-  choice-right c e = ap (λ (s : Bool). code_in (cond s (Code (right_for need)) None)) (sym (choice-served c e)) ∙ ap code_in e
+  pub choice-right : (c : ℕ) → choice_for need ≡ Some c → right_for need ≡ c
+  unfolding choice_for
+  choice-right c e = ap (λ (s : Bool). unwrap_or (cond s (Some (right_for need)) None) 0) (sym (choice-served c e)) ∙ ap (λ (o : Option ℕ). unwrap_or o 0) e
 
   pub choice-none : choice_for need ≡ None → is_served need ≡ false
-  unfolding choice_for is_code
+  unfolding choice_for
   choice-none e = by (is_served need) refl e
     where
-      by : (s : Bool) → is_served need ≡ s → cond s (Code (right_for need)) None ≡ None → is_served need ≡ false
-      by true p q = absurd (false≢true (sym (ap is_code q)))
+      by : (s : Bool) → is_served need ≡ s → cond s (Some (right_for need)) None ≡ None → is_served need ≡ false
+      by true p q = absurd (false≢true (sym (ap is_some q)))
       by false p q = p
 
   -- the right code is right, and no other
@@ -83,16 +71,16 @@ module _ (ns cs : List ℕ) (i : ℕ) (h : i < length ns) (k : i < length cs) wh
   unfolding judged_from
   judge-pass s r = rw (need, code, s, r, add-one i)
 
-  pub judge-unserved : is_served (get_or ns i 0) ≡ false → judged_from i (drop i ns) (drop i cs) ≡ Refused (NoWidth (i + 1))
+  pub judge-unserved : is_served (get_or ns i 0) ≡ false → judged_from i (drop i ns) (drop i cs) ≡ Err (NoWidth (i + 1))
   unfolding judged_from
   judge-unserved s = rw (need, code, s, add-one i)
 
   pub judge-other : is_served (get_or ns i 0) ≡ true → is_right (get_or ns i 0) (get_or cs i 0) ≡ false
-      → judged_from i (drop i ns) (drop i cs) ≡ Refused (NotNarrowest (i + 1))
+      → judged_from i (drop i ns) (drop i cs) ≡ Err (NotNarrowest (i + 1))
   unfolding judged_from
   judge-other s r = rw (need, code, s, r, add-one i)
 
-pub judge-end : (ns cs : List ℕ) (i : ℕ) → length ns ≤ i → judged_from i (drop i ns) cs ≡ Done i
+pub judge-end : (ns cs : List ℕ) (i : ℕ) → length ns ≤ i → judged_from i (drop i ns) cs ≡ Ok i
 unfolding judged_from
 judge-end ns cs i h = rw (drop_of_length-le ns h)
 
@@ -127,7 +115,7 @@ module _ (ns : List ℕ) (i : ℕ) (h : i < length ns) where
       → judged_from i (drop i ns) (drop i (right_codes ns)) ≡ judged_from (i + 1) (drop (i + 1) ns) (drop (i + 1) (right_codes ns))
   found-pass s = judge-pass ns (right_codes ns) i h within s (ap (is_right (get_or ns i 0)) (codes_at ns i h) ∙ right-itself (get_or ns i 0) s)
 
-  pub found-stop : is_served (get_or ns i 0) ≡ false → judged_from i (drop i ns) (drop i (right_codes ns)) ≡ Refused (NoWidth (i + 1))
+  pub found-stop : is_served (get_or ns i 0) ≡ false → judged_from i (drop i ns) (drop i (right_codes ns)) ≡ Err (NoWidth (i + 1))
   found-stop s = judge-unserved ns (right_codes ns) i h within s
 
 -- ---- whole lists
@@ -149,30 +137,26 @@ module _ (ns cs : List ℕ) where
   unfolding judged
   judged-in h = rw h
 
-  pub judged-out : lengths_right (length ns) (length cs) ≡ false → Refused ListLength ≡ judged ns cs
+  pub judged-out : lengths_right (length ns) (length cs) ≡ false → Err ListLength ≡ judged ns cs
   unfolding judged
   judged-out h = rw h
 
-count_of : Answer → ℕ
-count_of (Done n) = n
-count_of (Refused x) = 0
-
-unfoldable pub is_done : Answer → Bool
-is_done (Done n) = true
-is_done (Refused x) = false
+count_of : Result ℕ Refusal → ℕ
+count_of (Ok n) = n
+count_of (Err x) = 0
 
 -- a list that is judged right to its end has been counted to its end
-pub judged-count : (k m : ℕ) (ns cs : List ℕ) → length cs ≡ length ns → judged_from k ns cs ≡ Done m → m ≡ k + length ns
-unfolding judged_from count_of is_done
+pub judged-count : (k m : ℕ) (ns cs : List ℕ) → length cs ≡ length ns → judged_from k ns cs ≡ Ok m → m ≡ k + length ns
+unfolding judged_from count_of
 judged-count k m [] cs e d = sym (ap count_of d) ∙ omega arith
 judged-count k m (n ∷ ns) [] e d = absurd (omega (arith, e))
 judged-count k m (n ∷ ns) (c ∷ cs) e d = by (is_served n) (is_right n c) d (judged-count (suc k) m ns cs (omega (arith, e)))
   where
-    by : (s r : Bool) → cond s (cond r (judged_from (suc k) ns cs) (Refused (NotNarrowest (suc k)))) (Refused (NoWidth (suc k))) ≡ Done m
-        → (judged_from (suc k) ns cs ≡ Done m → m ≡ suc k + length ns) → m ≡ k + length (n ∷ ns)
+    by : (s r : Bool) → cond s (cond r (judged_from (suc k) ns cs) (Err (NotNarrowest (suc k)))) (Err (NoWidth (suc k))) ≡ Ok m
+        → (judged_from (suc k) ns cs ≡ Ok m → m ≡ suc k + length ns) → m ≡ k + length (n ∷ ns)
     by true true p f = omega (arith, f p)
-    by true false p f = absurd (false≢true (ap is_done p))
-    by false r p f = absurd (false≢true (ap is_done p))
+    by true false p f = absurd (false≢true (ap is_ok p))
+    by false r p f = absurd (false≢true (ap is_ok p))
 
 module _ (ns out : List ℕ) where
   module _ (h : lengths_right (length ns) (length out) ≡ true) where
@@ -180,30 +164,30 @@ module _ (ns out : List ℕ) where
     unfolding found
     found-judged = rw h
 
-    pub found-kept : (x : Refusal) → judged_from 0 ns (right_codes ns) ≡ Refused x → out ≡ found_in ns out
+    pub found-kept : (x : Refusal) → judged_from 0 ns (right_codes ns) ≡ Err x → out ≡ found_in ns out
     unfolding found_in
-    found-kept x e = sym (ap (λ (a : Answer). if_done a (right_codes ns) out) (sym found-judged ∙ e))
+    found-kept x e = sym (ap (λ (a : Result ℕ Refusal). if_done a (right_codes ns) out) (sym found-judged ∙ e))
 
     -- the codes found stand in the whole output
-    pub found-written : (m : ℕ) (cs : List ℕ) → judged_from 0 ns (right_codes ns) ≡ Done m → take (length ns) cs ≡ right_codes ns
-        → written out 0 (take (length ns - 0) cs) ≡ found_in ns out
+    pub found-written : (m : ℕ) (cs : List ℕ) → judged_from 0 ns (right_codes ns) ≡ Ok m → take (length ns) cs ≡ right_codes ns
+        → written out 0 (take (length ns) cs) ≡ found_in ns out
     unfolding found_in written
     found-written m cs e t =
         let n : length (right_codes ns) ≡ length out = codes-length ns ∙ (lengths-say (length ns) (length out) h).2 in
         let all : leb (0 + length (right_codes ns)) (length out) ≡ true = le-leb (0 + length (right_codes ns)) (length out) (omega (arith, n)) in
         let z : 0 + length (right_codes ns) ≡ length out = omega (arith, n) in
-        ap (written out 0) (ap (λ (k : ℕ). take k cs) (sub-zero (length ns)) ∙ t)
+        ap (written out 0) t
         ∙ ap (λ (b : Bool). cond b (paste out 0 (right_codes ns) (length (right_codes ns))) out) all
         ∙ ap (λ (l : List ℕ). take (length (right_codes ns)) (right_codes ns) ++ l) (ap (λ (k : ℕ). drop k out) z ∙ drop-length out)
         ∙ append-nil (take (length (right_codes ns)) (right_codes ns))
         ∙ take-length (right_codes ns)
-        ∙ sym (ap (λ (a : Answer). if_done a (right_codes ns) out) (sym found-judged ∙ e))
+        ∙ sym (ap (λ (a : Result ℕ Refusal). if_done a (right_codes ns) out) (sym found-judged ∙ e))
 
   module _ (h : lengths_right (length ns) (length out) ≡ false) where
-    pub found-out : Refused ListLength ≡ found ns (length out)
+    pub found-out : Err ListLength ≡ found ns (length out)
     unfolding found
     found-out = rw h
 
     pub found_left : out ≡ found_in ns out
     unfolding found_in
-    found_left = sym (ap (λ (a : Answer). if_done a (right_codes ns) out) (sym found-out))
+    found_left = sym (ap (λ (a : Result ℕ Refusal). if_done a (right_codes ns) out) (sym found-out))

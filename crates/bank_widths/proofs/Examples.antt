@@ -8,8 +8,8 @@ use lib.ListN.{replicate}
 use Rattle.table.specs.Codes.{is_in, rx_bw_codes}
 use Rattle.rx_bw.specs.Width.{is_named}
 use Rattle.refusal.specs.Numbers.{number_of, place_of}
-use Rattle.bank_widths.specs.declared.Answer.{Answer}
-use Rattle.bank_widths.specs.declared.Answer.TheVariants.{Done, Refused}
+use Rattle.std.specs.Prelude.{Result, Ok, Err}
+use Rattle.refusal.specs.declared.Refusal.{Refusal}
 use Rattle.width_rule.specs.Rule.{any_suffices, is_right, is_served, none_narrower, right_for, right_in, suffices}
 use Rattle.bank_widths.specs.Lists.{found, found_in, judged, judged_from, lengths_right, right_codes}
 
@@ -22,9 +22,9 @@ record Case : Type 0 where
 abbrev given : List ℕ → List ℕ → ℕ → ℕ → Case
 given ns cs r p = record { needs = ns; codes = cs; refusal = r; place = p }
 
-abbrev numbers : Answer → List ℕ
-numbers (Done n) = 0 ∷ n ∷ []
-numbers (Refused x) = number_of x ∷ place_of x ∷ []
+abbrev numbers : Result ℕ Refusal → List ℕ
+numbers (Ok n) = 0 ∷ n ∷ []
+numbers (Err x) = number_of x ∷ place_of x ∷ []
 
 abbrev answers : List Case → List (List ℕ)
 answers [] = []

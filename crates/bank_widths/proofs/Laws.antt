@@ -32,14 +32,13 @@ use Rattle.rx_bw.proofs.Names.{named_in}
 use Rattle.refusal.specs.declared.Refusal.{Refusal}
 use Rattle.refusal.specs.declared.Refusal.TheVariants.{NoWidth, NotNarrowest, ListLength}
 use Rattle.refusal.specs.Numbers.{number_of, place_of}
-use Rattle.bank_widths.specs.declared.Answer.{Answer}
-use Rattle.bank_widths.specs.declared.Answer.TheVariants.{Done, Refused}
+use Rattle.std.specs.Prelude.{Result, Ok, Err, is_ok}
 use Rattle.width_rule.specs.Rule.{is_right, is_served}
 use Rattle.bank_widths.specs.Lists.{found, found_in, if_done, judged, judged_from, lengths_right, right_codes}
 use Rattle.width_rule.proofs.Listed.{listed-bounds, widest}
 use Rattle.width_rule.proofs.Rules.{Right, any-no, any-yes, means-right, right-found, right-means, right-served, suffices-is, suffices-says}
 use Rattle.bank_widths.proofs.Search.{served-right}
-use Rattle.bank_widths.proofs.Banks.{is_done, codes_at, codes-length, found-out, judge-other, judge-unserved, judged-count, judged-in, judged-out, lengths-say, right-itself}
+use Rattle.bank_widths.proofs.Banks.{codes_at, codes-length, found-out, judge-other, judge-unserved, judged-count, judged-in, judged-out, lengths-say, right-itself}
 
 -- every code is right for its bank, and there are as many codes as banks
 abbrev pub AllRight : List ℕ → List ℕ → Type 0
@@ -79,42 +78,41 @@ all-length [] (c ∷ cs) a = absurd a
 all-length (n ∷ ns) [] a = absurd a
 all-length (n ∷ ns) (c ∷ cs) a = ap suc (all-length ns cs a.1)
 
-judged-all : (k : ℕ) (ns cs : List ℕ) → AllRight ns cs → judged_from k ns cs ≡ Done (k + length ns)
+judged-all : (k : ℕ) (ns cs : List ℕ) → AllRight ns cs → judged_from k ns cs ≡ Ok (k + length ns)
 unfolding judged_from
-judged-all k [] [] a = ap Done (omega arith)
+judged-all k [] [] a = ap Ok (omega arith)
 judged-all k [] (c ∷ cs) a = absurd a
 judged-all k (n ∷ ns) [] a = absurd a
 judged-all k (n ∷ ns) (c ∷ cs) a =
     let m : suc k + length ns ≡ k + suc (length ns) = omega arith in
-    rw (right-served n c a.0, means-right n c a.0) (judged-all (suc k) ns cs a.1 ∙ ap Done m)
+    rw (right-served n c a.0, means-right n c a.0) (judged-all (suc k) ns cs a.1 ∙ ap Ok m)
 
-all-judged : (k m : ℕ) (ns cs : List ℕ) → length ns ≡ length cs → judged_from k ns cs ≡ Done m → AllRight ns cs
-unfolding judged_from is_done
+all-judged : (k m : ℕ) (ns cs : List ℕ) → length ns ≡ length cs → judged_from k ns cs ≡ Ok m → AllRight ns cs
+unfolding judged_from
 all-judged k m [] [] e d = tt
 all-judged k m [] (c ∷ cs) e d = absurd (omega (arith, e))
 all-judged k m (n ∷ ns) [] e d = absurd (omega (arith, e))
 all-judged k m (n ∷ ns) (c ∷ cs) e d = by (is_served n) (is_right n c) refl d (all-judged (suc k) m ns cs (omega (arith, e)))
   where
-    by : (s r : Bool) → is_right n c ≡ r → cond s (cond r (judged_from (suc k) ns cs) (Refused (NotNarrowest (suc k)))) (Refused (NoWidth (suc k))) ≡ Done m
-        → (judged_from (suc k) ns cs ≡ Done m → AllRight ns cs) → Right n c × AllRight ns cs
+    by : (s r : Bool) → is_right n c ≡ r → cond s (cond r (judged_from (suc k) ns cs) (Err (NotNarrowest (suc k)))) (Err (NoWidth (suc k))) ≡ Ok m
+        → (judged_from (suc k) ns cs ≡ Ok m → AllRight ns cs) → Right n c × AllRight ns cs
     by true true q p f = (right-means n c q, f p)
-    by true false q p f = absurd (false≢true (ap is_done p))
-    by false r q p f = absurd (false≢true (ap is_done p))
+    by true false q p f = absurd (false≢true (ap is_ok p))
+    by false r q p f = absurd (false≢true (ap is_ok p))
 
 module _ (ns cs : List ℕ) where
-  pub all-accepts : lengths_right (length ns) (length cs) ≡ true → AllRight ns cs → judged ns cs ≡ Done (length ns)
-  all-accepts h a = sym (judged-in ns cs h) ∙ judged-all 0 ns cs a ∙ ap Done (omega arith)
+  pub all-accepts : lengths_right (length ns) (length cs) ≡ true → AllRight ns cs → judged ns cs ≡ Ok (length ns)
+  all-accepts h a = sym (judged-in ns cs h) ∙ judged-all 0 ns cs a ∙ ap Ok (omega arith)
 
-  pub accepts-all : (m : ℕ) → judged ns cs ≡ Done m → (lengths_right (length ns) (length cs) ≡ true) × AllRight ns cs × (m ≡ length ns)
-  unfolding is_done
+  pub accepts-all : (m : ℕ) → judged ns cs ≡ Ok m → (lengths_right (length ns) (length cs) ≡ true) × AllRight ns cs × (m ≡ length ns)
   accepts-all m d = by (lengths_right (length ns) (length cs)) refl
     where
       by : (b : Bool) → lengths_right (length ns) (length cs) ≡ b → (lengths_right (length ns) (length cs) ≡ true) × AllRight ns cs × (m ≡ length ns)
       by true h =
           let e = (lengths-say (length ns) (length cs) h).2 in
-          let j : judged_from 0 ns cs ≡ Done m = judged-in ns cs h ∙ d in
+          let j : judged_from 0 ns cs ≡ Ok m = judged-in ns cs h ∙ d in
           (h, all-judged 0 m ns cs e j, judged-count 0 m ns cs (sym e) j ∙ omega arith)
-      by false h = absurd (false≢true (ap is_done (judged-out ns cs h ∙ d)))
+      by false h = absurd (false≢true (ap is_ok (judged-out ns cs h ∙ d)))
 
 all-only : (ns cs : List ℕ) → AllRight ns cs → right_codes ns ≡ cs
 unfolding right_codes
@@ -124,7 +122,7 @@ all-only (n ∷ ns) [] a = absurd a
 all-only (n ∷ ns) (c ∷ cs) a = ap₂ ◌∷◌ (right-found n c a.0) (all-only ns cs a.1)
 
 -- an accepted list is that of the right codes
-pub accepted-only : (ns cs : List ℕ) (m : ℕ) → judged ns cs ≡ Done m → cs ≡ right_codes ns
+pub accepted-only : (ns cs : List ℕ) (m : ℕ) → judged ns cs ≡ Ok m → cs ≡ right_codes ns
 accepted-only ns cs m d = sym (all-only ns cs (accepts-all ns cs m d).1)
 
 -- ---- lists that are found
@@ -132,32 +130,32 @@ accepted-only ns cs m d = sym (all-only ns cs (accepts-all ns cs m d).1)
 -- what is found is judged, where the output has the list's length
 found-is : (ns : List ℕ) (m : ℕ) → length ns ≡ m → found ns m ≡ judged ns (right_codes ns)
 unfolding found judged
-found-is ns m e = ap (λ (k : ℕ). cond (lengths_right (length ns) k) (judged_from 0 ns (right_codes ns)) (Refused ListLength)) (sym e ∙ sym (codes-length ns))
+found-is ns m e = ap (λ (k : ℕ). cond (lengths_right (length ns) k) (judged_from 0 ns (right_codes ns)) (Err ListLength)) (sym e ∙ sym (codes-length ns))
 
 module _ (ns out : List ℕ) where
-  pub found-accepted : (m : ℕ) → found ns (length out) ≡ Done m → (found_in ns out ≡ right_codes ns) × (judged ns (found_in ns out) ≡ Done m)
-  unfolding found_in is_done
+  pub found-accepted : (m : ℕ) → found ns (length out) ≡ Ok m → (found_in ns out ≡ right_codes ns) × (judged ns (found_in ns out) ≡ Ok m)
+  unfolding found_in
   found-accepted m d = by (lengths_right (length ns) (length out)) refl
     where
       there : found_in ns out ≡ right_codes ns
-      there = ap (λ (a : Answer). if_done a (right_codes ns) out) d
+      there = ap (λ (a : Result ℕ Refusal). if_done a (right_codes ns) out) d
 
-      by : (b : Bool) → lengths_right (length ns) (length out) ≡ b → (found_in ns out ≡ right_codes ns) × (judged ns (found_in ns out) ≡ Done m)
+      by : (b : Bool) → lengths_right (length ns) (length out) ≡ b → (found_in ns out ≡ right_codes ns) × (judged ns (found_in ns out) ≡ Ok m)
       by true h = (there, ap (judged ns) there ∙ sym (found-is ns (length out) (lengths-say (length ns) (length out) h).2) ∙ d)
-      by false h = absurd (false≢true (ap is_done (found-out ns out h ∙ d)))
+      by false h = absurd (false≢true (ap is_ok (found-out ns out h ∙ d)))
 
-  pub found-keeps : (x : Refusal) → found ns (length out) ≡ Refused x → found_in ns out ≡ out
+  pub found-keeps : (x : Refusal) → found ns (length out) ≡ Err x → found_in ns out ≡ out
   unfolding found_in
-  found-keeps x e = ap (λ (a : Answer). if_done a (right_codes ns) out) e
+  found-keeps x e = ap (λ (a : Result ℕ Refusal). if_done a (right_codes ns) out) e
 
 -- where any list is accepted, that list is found
-pub accepted-found : (ns cs : List ℕ) (m : ℕ) → judged ns cs ≡ Done m → (found ns (length cs) ≡ Done m) × (found_in ns cs ≡ cs)
+pub accepted-found : (ns cs : List ℕ) (m : ℕ) → judged ns cs ≡ Ok m → (found ns (length cs) ≡ Ok m) × (found_in ns cs ≡ cs)
 unfolding found_in
 accepted-found ns cs m d =
     let own : cs ≡ right_codes ns = accepted-only ns cs m d in
     let same : length ns ≡ length cs = (lengths-say (length ns) (length cs) (accepts-all ns cs m d).0).2 in
-    let done : found ns (length cs) ≡ Done m = found-is ns (length cs) same ∙ ap (judged ns) (sym own) ∙ d in
-    (done, ap (λ (a : Answer). if_done a (right_codes ns) cs) done ∙ sym own)
+    let done : found ns (length cs) ≡ Ok m = found-is ns (length cs) same ∙ ap (judged ns) (sym own) ∙ d in
+    (done, ap (λ (a : Result ℕ Refusal). if_done a (right_codes ns) cs) done ∙ sym own)
 
 -- every need can be served
 abbrev pub AllServed : List ℕ → Type 0
@@ -175,18 +173,18 @@ all-served (n ∷ ns) [] a = absurd a
 all-served (n ∷ ns) (c ∷ cs) a = (right-served n c a.0, all-served ns cs a.1)
 
 module _ (ns : List ℕ) (m : ℕ) where
-  pub served-found : lengths_right (length ns) m ≡ true → AllServed ns → found ns m ≡ Done (length ns)
+  pub served-found : lengths_right (length ns) m ≡ true → AllServed ns → found ns m ≡ Ok (length ns)
   unfolding found
-  served-found h a = rw h (judged-all 0 ns (right_codes ns) (served-all ns a) ∙ ap Done (omega arith))
+  served-found h a = rw h (judged-all 0 ns (right_codes ns) (served-all ns a) ∙ ap Ok (omega arith))
 
-  pub found-served : (k : ℕ) → found ns m ≡ Done k → (lengths_right (length ns) m ≡ true) × AllServed ns
-  unfolding found is_done
+  pub found-served : (k : ℕ) → found ns m ≡ Ok k → (lengths_right (length ns) m ≡ true) × AllServed ns
+  unfolding found
   found-served k d = by (lengths_right (length ns) m) refl d
     where
-      by : (b : Bool) → lengths_right (length ns) m ≡ b → cond b (judged_from 0 ns (right_codes ns)) (Refused ListLength) ≡ Done k
+      by : (b : Bool) → lengths_right (length ns) m ≡ b → cond b (judged_from 0 ns (right_codes ns)) (Err ListLength) ≡ Ok k
           → (lengths_right (length ns) m ≡ true) × AllServed ns
       by true h e = (h, all-served ns (right_codes ns) (all-judged 0 k ns (right_codes ns) (sym (codes-length ns)) e))
-      by false h e = absurd (false≢true (ap is_done e))
+      by false h e = absurd (false≢true (ap is_ok e))
 
 -- ---- where a list is refused
 
@@ -214,13 +212,13 @@ module _ (ns cs : List ℕ) (k : ℕ) (h : lengths_right (length ns) (length cs)
   reached : judged ns cs ≡ judged_from k (drop k ns) (drop k cs)
   reached = sym (judged-in ns cs h) ∙ stops-judged 0 k ns cs same s ∙ ap (λ (i : ℕ). judged_from i (drop k ns) (drop k cs)) (omega arith)
 
-  pub nineteen : is_served (get_or ns k 0) ≡ false → judged ns cs ≡ Refused (NoWidth (k + 1))
+  pub nineteen : is_served (get_or ns k 0) ≡ false → judged ns cs ≡ Err (NoWidth (k + 1))
   nineteen u = reached ∙ judge-unserved ns cs k s.within (omega (arith, same, s.within)) u
 
-  pub twenty : is_served (get_or ns k 0) ≡ true → is_right (get_or ns k 0) (get_or cs k 0) ≡ false → judged ns cs ≡ Refused (NotNarrowest (k + 1))
+  pub twenty : is_served (get_or ns k 0) ≡ true → is_right (get_or ns k 0) (get_or cs k 0) ≡ false → judged ns cs ≡ Err (NotNarrowest (k + 1))
   twenty u r = reached ∙ judge-other ns cs k s.within (omega (arith, same, s.within)) u r
 
-pub twenty-one : (ns cs : List ℕ) → lengths_right (length ns) (length cs) ≡ false → judged ns cs ≡ Refused ListLength
+pub twenty-one : (ns cs : List ℕ) → lengths_right (length ns) (length cs) ≡ false → judged ns cs ≡ Err ListLength
 twenty-one ns cs h = sym (judged-out ns cs h)
 
 -- why bank b is refused, with need n and code c
@@ -233,13 +231,13 @@ pub record Stopped (j : ℕ) (ns cs : List ℕ) (x : Refusal) : Type 0 where
   pub stops : Stops ns cs bank
   pub why : Why (j + bank + 1) (get_or ns bank 0) (get_or cs bank 0) x
 
-refusal_in : Answer → Refusal
-refusal_in (Done n) = ListLength
-refusal_in (Refused x) = x
+refusal_in : Result ℕ Refusal → Refusal
+refusal_in (Ok n) = ListLength
+refusal_in (Err x) = x
 
-refused-stopped : (j : ℕ) (ns cs : List ℕ) (x : Refusal) → length ns ≡ length cs → judged_from j ns cs ≡ Refused x → Stopped j ns cs x
-unfolding judged_from is_done refusal_in
-refused-stopped j [] cs x e d = absurd (false≢true (sym (ap is_done d)))
+refused-stopped : (j : ℕ) (ns cs : List ℕ) (x : Refusal) → length ns ≡ length cs → judged_from j ns cs ≡ Err x → Stopped j ns cs x
+unfolding judged_from refusal_in
+refused-stopped j [] cs x e d = absurd (false≢true (sym (ap is_ok d)))
 refused-stopped j (n ∷ ns) [] x e d = absurd (omega (arith, e))
 refused-stopped j (n ∷ ns) (c ∷ cs) x e d = by (is_served n) refl (is_right n c) refl d (refused-stopped (suc j) ns cs x (omega (arith, e)))
   where
@@ -256,13 +254,13 @@ refused-stopped j (n ∷ ns) (c ∷ cs) x e d = by (is_served n) refl (is_right 
         }
 
     by : (s : Bool) → is_served n ≡ s → (r : Bool) → is_right n c ≡ r
-        → cond s (cond r (judged_from (suc j) ns cs) (Refused (NotNarrowest (suc j)))) (Refused (NoWidth (suc j))) ≡ Refused x
-        → (judged_from (suc j) ns cs ≡ Refused x → Stopped (suc j) ns cs x) → Stopped j (n ∷ ns) (c ∷ cs) x
+        → cond s (cond r (judged_from (suc j) ns cs) (Err (NotNarrowest (suc j)))) (Err (NoWidth (suc j))) ≡ Err x
+        → (judged_from (suc j) ns cs ≡ Err x → Stopped (suc j) ns cs x) → Stopped j (n ∷ ns) (c ∷ cs) x
     by false p r q d f = here (suc j) refl (inl (p, sym (ap refusal_in d)))
     by true p false q d f = here (suc j) refl (inr (p, q, sym (ap refusal_in d)))
     by true p true q d f = later (right-means n c q) (f d)
 
-pub refused-means : (ns cs : List ℕ) (x : Refusal) → judged ns cs ≡ Refused x
+pub refused-means : (ns cs : List ℕ) (x : Refusal) → judged ns cs ≡ Err x
     → ((lengths_right (length ns) (length cs) ≡ false) × (x ≡ ListLength)) ⊎ ((lengths_right (length ns) (length cs) ≡ true) × Stopped 0 ns cs x)
 unfolding refusal_in
 refused-means ns cs x d = by (lengths_right (length ns) (length cs)) refl
@@ -273,7 +271,7 @@ refused-means ns cs x d = by (lengths_right (length ns) (length cs)) refl
     by false h = inl (h, sym (ap refusal_in (judged-out ns cs h ∙ d)))
 
 -- a bank that is refused by 20 has a right code, which find has for it
-pub twenty-right : (ns cs : List ℕ) (b : ℕ) → judged ns cs ≡ Refused (NotNarrowest b) → (1 ≤ b) × (b ≤ length ns) × Right (get_or ns (b - 1) 0) (get_or (right_codes ns) (b - 1) 0)
+pub twenty-right : (ns cs : List ℕ) (b : ℕ) → judged ns cs ≡ Err (NotNarrowest b) → (1 ≤ b) × (b ≤ length ns) × Right (get_or ns (b - 1) 0) (get_or (right_codes ns) (b - 1) 0)
 twenty-right ns cs b d = by (refused-means ns cs (NotNarrowest b) d)
   where
     own : Stopped 0 ns cs (NotNarrowest b) → (1 ≤ b) × (b ≤ length ns) × Right (get_or ns (b - 1) 0) (get_or (right_codes ns) (b - 1) 0)
@@ -295,25 +293,25 @@ twenty-right ns cs b d = by (refused-means ns cs (NotNarrowest b) d)
 
 -- what find refuses by, wherever it is so
 module _ (ns : List ℕ) (m : ℕ) where
-  pub found-nineteen : (k : ℕ) → lengths_right (length ns) m ≡ true → Stops ns (right_codes ns) k → is_served (get_or ns k 0) ≡ false → found ns m ≡ Refused (NoWidth (k + 1))
+  pub found-nineteen : (k : ℕ) → lengths_right (length ns) m ≡ true → Stops ns (right_codes ns) k → is_served (get_or ns k 0) ≡ false → found ns m ≡ Err (NoWidth (k + 1))
   found-nineteen k h s u =
       let e : length ns ≡ m = (lengths-say (length ns) m h).2 in
       let f : lengths_right (length ns) (length (right_codes ns)) ≡ true = ap (lengths_right (length ns)) (codes-length ns ∙ e) ∙ h in
       found-is ns m e ∙ nineteen ns (right_codes ns) k f s u
 
-  pub found-twenty-one : lengths_right (length ns) m ≡ false → found ns m ≡ Refused ListLength
+  pub found-twenty-one : lengths_right (length ns) m ≡ false → found ns m ≡ Err ListLength
   unfolding found
   found-twenty-one h = rw h
 
 -- and only there; of the right codes none is refused by 20
 module _ (ns : List ℕ) (m : ℕ) where
-  pub found-means : (x : Refusal) → found ns m ≡ Refused x
+  pub found-means : (x : Refusal) → found ns m ≡ Err x
       → ((lengths_right (length ns) m ≡ false) × (x ≡ ListLength))
       ⊎ ((lengths_right (length ns) m ≡ true) × Stopped 0 ns (right_codes ns) x × (number_of x ≡ 19))
   unfolding found refusal_in
   found-means x d = by (lengths_right (length ns) m) refl d
     where
-      by : (b : Bool) → lengths_right (length ns) m ≡ b → cond b (judged_from 0 ns (right_codes ns)) (Refused ListLength) ≡ Refused x
+      by : (b : Bool) → lengths_right (length ns) m ≡ b → cond b (judged_from 0 ns (right_codes ns)) (Err ListLength) ≡ Err x
           → ((lengths_right (length ns) m ≡ false) × (x ≡ ListLength))
           ⊎ ((lengths_right (length ns) m ≡ true) × Stopped 0 ns (right_codes ns) x × (number_of x ≡ 19))
       by true h e = inr (h, t, number t.why)
@@ -337,14 +335,14 @@ why-place b n c x (inr (u, v, w)) = ap place_of w
 stopped-place : (ns cs : List ℕ) (x : Refusal) → length ns ≤ 32 → Stopped 0 ns cs x → place_of x ≤ 32
 stopped-place ns cs x h t = omega (arith, why-place (0 + t.bank + 1) (get_or ns t.bank 0) (get_or cs t.bank 0) x t.why, t.stops.within, h)
 
-pub judged-place : (ns cs : List ℕ) (x : Refusal) → judged ns cs ≡ Refused x → place_of x ≤ 32
+pub judged-place : (ns cs : List ℕ) (x : Refusal) → judged ns cs ≡ Err x → place_of x ≤ 32
 judged-place ns cs x d = by (refused-means ns cs x d)
   where
     by : ((lengths_right (length ns) (length cs) ≡ false) × (x ≡ ListLength)) ⊎ ((lengths_right (length ns) (length cs) ≡ true) × Stopped 0 ns cs x) → place_of x ≤ 32
     by (inl (h, e)) = omega (arith, ap place_of e)
     by (inr (h, t)) = stopped-place ns cs x (lengths-say (length ns) (length cs) h).1 t
 
-pub found-place : (ns : List ℕ) (m : ℕ) (x : Refusal) → found ns m ≡ Refused x → place_of x ≤ 32
+pub found-place : (ns : List ℕ) (m : ℕ) (x : Refusal) → found ns m ≡ Err x → place_of x ≤ 32
 found-place ns m x d = by (found-means ns m x d)
   where
     by : ((lengths_right (length ns) m ≡ false) × (x ≡ ListLength)) ⊎ ((lengths_right (length ns) m ≡ true) × Stopped 0 ns (right_codes ns) x × (number_of x ≡ 19)) → place_of x ≤ 32

@@ -4,4 +4,5 @@ pub mod Examples
 pub mod Keys
 pub mod Laws
 pub mod Outcome
+pub mod Passing
 pub mod Search

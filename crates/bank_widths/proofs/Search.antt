@@ -16,7 +16,7 @@ use Rattle.table.specs.Codes.{rx_bw_codes}
 use Rattle.rx_bw.specs.Width.{divisor, is_named}
 use Rattle.width_rule.specs.Rule.{is_served, right_for}
 use Rattle.bank_widths.specs.Keys.{better, choice_for, greatest, key_of, keys_below, limit_of, listed_keys}
-use Rattle.bank_widths.specs.declared.Choice.TheVariants.{Code, None}
+use Rattle.std.specs.Prelude.{Some, None}
 use Rattle.width_rule.proofs.Listed.{listed-bounds}
 use Rattle.width_rule.proofs.Rules.{Enough, NoWider, Right, any-no, right-found, right-served, suffices-says}
 
@@ -179,7 +179,7 @@ module _ (need : ℕ) where
   unfolding choice_for
   chosen_none e = rw (search-none e)
 
-  pub chosen-some : (greatest (limit_of need) 0 listed_keys ≡ 0 → ⊥) → Code (greatest (limit_of need) 0 listed_keys % 256) ≡ choice_for need
+  pub chosen-some : (greatest (limit_of need) 0 listed_keys ≡ 0 → ⊥) → Some (greatest (limit_of need) 0 listed_keys % 256) ≡ choice_for need
   unfolding choice_for
   chosen-some n =
       let r : Right need (best % 256) = search-some n in

@@ -1,11 +1,9 @@
 -- How the source goes by the rule (REFERENCE, "Widths for banks"): a listed code and its divisor as one number, its key, and the greatest key up to a
 -- limit. proofs/Search.antt shows that it is the right code's.
 -- Assumes nothing.
-use Rattle.std.specs.Prelude.{ℕ, zero, suc, ◌+◌, ◌*◌, ◌/◌, ◌-◌, ◌^◌, cond, List, [], ◌∷◌, ◌++◌, eqb, ltb}
+use Rattle.std.specs.Prelude.{ℕ, zero, suc, ◌+◌, ◌*◌, ◌/◌, ◌-◌, ◌^◌, cond, List, [], ◌∷◌, ◌++◌, eqb, ltb, Option, Some, None}
 use Rattle.rx_bw.specs.Width.{divisor, is_named}
 use Rattle.width_rule.specs.Rule.{is_served, right_for}
-use Rattle.bank_widths.specs.declared.Choice.{Choice}
-use Rattle.bank_widths.specs.declared.Choice.TheVariants.{Code, None}
 
 -- a code behind its divisor
 unfoldable pub key_of : ℕ → ℕ
@@ -34,5 +32,5 @@ unfoldable pub limit_of : ℕ → ℕ
 limit_of need = cond (eqb need 0) (2 ^ 64 - 1) (40000000 / need * 256 + 255)
 
 -- the right code for a need, or that there is none
-unfoldable pub choice_for : ℕ → Choice
-choice_for need = cond (is_served need) (Code (right_for need)) None
+unfoldable pub choice_for : ℕ → Option ℕ
+choice_for need = cond (is_served need) (Some (right_for need)) None

@@ -20,8 +20,8 @@ use Rattle.book.proofs.Keeps.{lent_to, refused-keeps}
 use Rattle.owners.specs.Owners.{OwnerTable}
 use Rattle.sides.specs.Calls.{Request, side_call}
 use Rattle.sides.proofs.Keeps.{side-keeps}
-use Rattle.bank_widths.specs.declared.Answer as widths
-use Rattle.bank_widths.specs.declared.Answer.TheVariants as banks
+use Rattle.std.specs.Prelude.{Result, Ok, Err}
+use Rattle.refusal.specs.declared.Refusal.{Refusal}
 use Rattle.bank_widths.specs.Lists.{found, found_in}
 use Rattle.bank_widths.proofs.Laws.{found-keeps}
 use Rattle.playback.specs.Plays.{plays}
@@ -61,9 +61,9 @@ shared_keeps t w c o b B = by (side_call t w c o b).answer refl
 pub codes-keep : (ns out : List ℕ) → 0 < (banks_c (found ns (length out))).refusal → found_in ns out ≡ out
 codes-keep ns out = by (found ns (length out)) refl
   where
-    by : (a : widths.Answer) → found ns (length out) ≡ a → 0 < (banks_c a).refusal → found_in ns out ≡ out
-    by (banks.Done n) e q = absurd (omega arith)
-    by (banks.Refused x) e q = found-keeps ns out x e
+    by : (a : Result ℕ Refusal) → found ns (length out) ≡ a → 0 < (banks_c a).refusal → found_in ns out ≡ out
+    by (Ok n) e q = absurd (omega arith)
+    by (Err x) e q = found-keeps ns out x e
 
 -- `hb_play`: by its own refusal, 11, nothing is altered. By 15 the book is that of the records before the fault: the one refusal that alters.
 pub play-keeps : (t b : List ℕ) → (day_c (plays t b).played).refusal ≡ 11 → (plays t b).bytes ≡ b

@@ -33,8 +33,7 @@ use Rattle.sides.specs.Calls as side
 use Rattle.sides.specs.Calls.{Request, amid, barred, edited, may_call, own_turn, side_on, step_of}
 use Rattle.sides.specs.Histories.{after_event, by}
 use Rattle.sides.specs.Parts.{part_of}
-use Rattle.bank_widths.specs.declared.Answer as widths
-use Rattle.bank_widths.specs.declared.Answer.TheVariants as banks
+use Rattle.std.specs.Prelude.{Result, Ok, Err}
 use Rattle.bank_widths.specs.Lists.{found, found_in, judged}
 use Rattle.bank_widths.proofs.Laws.{accepts-all, found-accepted}
 use Rattle.locker_profile.specs.declared.Answer as locker
@@ -72,9 +71,9 @@ book-told c b = answer-told (after c b).answer
 pub side-told : (t : OwnerTable) (w : ℕ) (c : Request) (o b : List ℕ) → Told (answer_c (after_event t (by w c o) b).answer)
 side-told t w c o b = answer-told (after_event t (by w c o) b).answer
 
-pub banks-told : (a : widths.Answer) → Told (banks_c a)
-banks-told (banks.Done n) = done-told n
-banks-told (banks.Refused x) = refused-told x
+pub banks-told : (a : Result ℕ Refusal) → Told (banks_c a)
+banks-told (Ok n) = done-told n
+banks-told (Err x) = refused-told x
 
 pub text-told : (d : Result ℕ Refusal) → Told (dump_c d)
 text-told (Ok n) = done-told n
@@ -212,13 +211,13 @@ module _ (t : OwnerTable) (w : ℕ) where
 pub check-count : (ns cs : List ℕ) → (banks_c (judged ns cs)).refusal ≡ 0 → (banks_c (judged ns cs)).value ≡ length ns
 check-count ns cs = go (judged ns cs) refl
   where
-    go : (a : widths.Answer) → judged ns cs ≡ a → (banks_c a).refusal ≡ 0 → (banks_c a).value ≡ length ns
-    go (banks.Done n) e z = (accepts-all ns cs n e).2
-    go (banks.Refused x) e z = absurd (omega (arith, z, (number-bounds x).0))
+    go : (a : Result ℕ Refusal) → judged ns cs ≡ a → (banks_c a).refusal ≡ 0 → (banks_c a).value ≡ length ns
+    go (Ok n) e z = (accepts-all ns cs n e).2
+    go (Err x) e z = absurd (omega (arith, z, (number-bounds x).0))
 
 pub find-count : (ns out : List ℕ) → (banks_c (found ns (length out))).refusal ≡ 0 → (banks_c (found ns (length out))).value ≡ length ns
 find-count ns out = go (found ns (length out)) refl
   where
-    go : (a : widths.Answer) → found ns (length out) ≡ a → (banks_c a).refusal ≡ 0 → (banks_c a).value ≡ length ns
-    go (banks.Done n) e z = (accepts-all ns (found_in ns out) n (found-accepted ns out n e).1).2
-    go (banks.Refused x) e z = absurd (omega (arith, z, (number-bounds x).0))
+    go : (a : Result ℕ Refusal) → found ns (length out) ≡ a → (banks_c a).refusal ≡ 0 → (banks_c a).value ≡ length ns
+    go (Ok n) e z = (accepts-all ns (found_in ns out) n (found-accepted ns out n e).1).2
+    go (Err x) e z = absurd (omega (arith, z, (number-bounds x).0))

@@ -25,7 +25,7 @@ use Rattle.book.proofs.Places.{after-place}
 use Rattle.owners.specs.Owners.{OwnerTable}
 use Rattle.sides.specs.Calls.{Request, side_call}
 use Rattle.sides.proofs.Places.{side-place}
-use Rattle.bank_widths.specs.declared.Answer.TheVariants as banks
+use Rattle.std.specs.Prelude.{Err}
 use Rattle.bank_widths.specs.Lists.{found, judged}
 use Rattle.bank_widths.proofs.Laws.{found-place, judged-place}
 use Rattle.locker_profile.specs.declared.Answer as locker
@@ -176,10 +176,10 @@ side-whole t w c o b x e = low_small (place_of x) (omega (arith, side-place b t 
 low-bank : (x : Refusal) → place_of x ≤ 32 → low (place_of x) ≡ place_of x
 low-bank x h = low_small (place_of x) (omega (arith, h))
 
-pub widths-check-whole : (ns cs : List ℕ) (x : Refusal) → judged ns cs ≡ banks.Refused x → low (place_of x) ≡ place_of x
+pub widths-check-whole : (ns cs : List ℕ) (x : Refusal) → judged ns cs ≡ Err x → low (place_of x) ≡ place_of x
 widths-check-whole ns cs x e = low-bank x (judged-place ns cs x e)
 
-pub widths-find-whole : (ns : List ℕ) (m : ℕ) (x : Refusal) → found ns m ≡ banks.Refused x → low (place_of x) ≡ place_of x
+pub widths-find-whole : (ns : List ℕ) (m : ℕ) (x : Refusal) → found ns m ≡ Err x → low (place_of x) ≡ place_of x
 widths-find-whole ns m x e = low-bank x (found-place ns m x e)
 
 -- ---- the locker profile

@@ -4,14 +4,14 @@ ghost use Rattle.bank_widths.specs.Lists.{found, found_in, judged};
 ghost use Rattle.hoardbutton.specs.Banks.{banks_c};
 
 use crate::answers::{HbAnswer, done, refused};
-use bank_widths::Answer;
+use refusal::Refusal;
 
-fn answered(a: Answer) -> HbAnswer
+fn answered(a: Result<usize, Refusal>) -> HbAnswer
     ensures { result ≡ banks_c a }
 {
     match a {
-        Answer::Done(n) => done(n as u64),
-        Answer::Refused(why) => refused(why),
+        Ok(n) => done(n as u64),
+        Err(why) => refused(why),
     }
 }
 

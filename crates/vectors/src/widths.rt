@@ -3,6 +3,7 @@
 use crate::answer::Answer;
 use crate::coded::refused;
 use crate::request::{A8, byte, u64_at};
+use refusal::Refusal;
 
 // Two more than a list may have.
 const MOST: usize = 34;
@@ -41,10 +42,10 @@ fn codes(p: &[u8]) -> [u8; 34] {
 }
 
 // Refusal, place, how many banks are right.
-fn said(answer: bank_widths::Answer) -> Answer {
+fn said(answer: Result<usize, Refusal>) -> Answer {
     match answer {
-        bank_widths::Answer::Done(banks) => Answer::new().put_u16(0).low(banks as u64),
-        bank_widths::Answer::Refused(why) => refused(why).byte(0),
+        Ok(banks) => Answer::new().put_u16(0).low(banks as u64),
+        Err(why) => refused(why).byte(0),
     }
 }
 
@@ -62,7 +63,7 @@ pub fn checked(count: usize, p: &[u8]) -> Answer {
 }
 
 // Finds into the first codes of `out`, so many if there are.
-fn find_in(needs: &[u64], len: usize, out: &mut [u8]) -> bank_widths::Answer {
+fn find_in(needs: &[u64], len: usize, out: &mut [u8]) -> Result<usize, Refusal> {
     if out.len() < len {
         return bank_widths::find(needs, out);
     }

@@ -13,8 +13,7 @@ use lib.Seq.{take_at}
 use Rattle.refusal.specs.declared.Refusal.{Refusal}
 use Rattle.refusal.specs.declared.Refusal.TheVariants.{ListLength}
 use Rattle.refusal.specs.Numbers.{number_of, place_of}
-use Rattle.bank_widths.specs.declared.Answer.{Answer}
-use Rattle.bank_widths.specs.declared.Answer.TheVariants.{Done, Refused}
+use Rattle.std.specs.Prelude.{Result, Ok, Err}
 use Rattle.width_rule.specs.Rule.{is_served, right_for}
 use Rattle.bank_widths.specs.Lists.{lengths_right, judged_from, judged, right_codes, found, found_in}
 use Rattle.bank_widths.proofs.Banks.{right-itself, codes-length, codes_at, lengths-say}
@@ -23,21 +22,21 @@ use Rattle.widths_text.specs.Text.{bank_line, line_at, bank_lines, refused_text,
 
 -- ---- needs alone
 
-pub found-few : (ns : List ℕ) (m k : ℕ) → found ns m ≡ Done k → length ns ≤ 32
+pub found-few : (ns : List ℕ) (m k : ℕ) → found ns m ≡ Ok k → length ns ≤ 32
 unfolding found
 found-few ns m k = by (lengths_right (length ns) m) refl
   where
-    by : (b : Bool) → lengths_right (length ns) m ≡ b → cond b (judged_from 0 ns (right_codes ns)) (Refused ListLength) ≡ Done k → length ns ≤ 32
+    by : (b : Bool) → lengths_right (length ns) m ≡ b → cond b (judged_from 0 ns (right_codes ns)) (Err ListLength) ≡ Ok k → length ns ≤ 32
     by true e f = (lengths-say (length ns) m e).1
     by false e f = absurd (let z : ◌≡◌ {A = ℕ} 0 1 = cc in omega arith)
 
-pub needs-told : (ns : List ℕ) {m : ℕ} {r : Answer} → r ≡ found ns m → m ≡ length ns → needs_text ns ≡ found_text ns r
+pub needs-told : (ns : List ℕ) {m : ℕ} {r : Result ℕ Refusal} → r ≡ found ns m → m ≡ length ns → needs_text ns ≡ found_text ns r
 unfolding needs_text
 needs-told ns e n = ap (found_text ns) (ap (found ns) (sym n) ∙ sym e)
 
 -- what a search into a part of an output left there, and how the front of the output is read again
-module _ (ns part : List ℕ) {r : Answer} {after : List ℕ} {k : ℕ} (e : r ≡ found ns (length part)) (n : length part ≡ length ns)
-    (f : after ≡ found_in ns part) (d : r ≡ Done k) (rest : List ℕ) where
+module _ (ns part : List ℕ) {r : Result ℕ Refusal} {after : List ℕ} {k : ℕ} (e : r ≡ found ns (length part)) (n : length part ≡ length ns)
+    (f : after ≡ found_in ns part) (d : r ≡ Ok k) (rest : List ℕ) where
   codes-stand : after ≡ right_codes ns
   codes-stand = f ∙ (found-accepted ns part k (sym e ∙ d)).0
 
@@ -47,20 +46,19 @@ module _ (ns part : List ℕ) {r : Answer} {after : List ℕ} {k : ℕ} (e : r �
   pub codes-room : length ns ≤ length (after ++ rest)
   codes-room = omega (arith, codes-count, length-append after rest)
 
-  codes-front : take (length ns - 0) (after ++ rest) ≡ right_codes ns
+  codes-front : take (length ns) (after ++ rest) ≡ right_codes ns
   codes-front =
-      let m : length after ≡ length ns - 0 = codes-count ∙ omega arith in
-      take_at after rest (length ns - 0) m ∙ codes-stand
+      take_at after rest (length ns) codes-count ∙ codes-stand
 
-  pub codes-fit : length ns ≡ length (take (length ns - 0) (after ++ rest))
+  pub codes-fit : length ns ≡ length (take (length ns) (after ++ rest))
   codes-fit = sym (ap length codes-front ∙ codes-length ns)
 
-  pub needs-lines : needs_text ns ≡ bank_lines 0 ns (take (length ns - 0) (after ++ rest))
+  pub needs-lines : needs_text ns ≡ bank_lines 0 ns (take (length ns) (after ++ rest))
   needs-lines = needs-told ns e n ∙ ap (found_text ns) d ∙ ap (bank_lines 0 ns) (sym codes-front)
 
 -- ---- proposed codes
 
-pub refused-served : (ns cs : List ℕ) (x : Refusal) → judged ns cs ≡ Refused x → number_of x ≡ 20 → ServedAt ns (place_of x)
+pub refused-served : (ns cs : List ℕ) (x : Refusal) → judged ns cs ≡ Err x → number_of x ≡ 20 → ServedAt ns (place_of x)
 refused-served ns cs x e n = ⊎_elim (λ w. other 21 (ap number_of w.1) (omega arith)) (λ w. stopped w.1) (refused-means ns cs x e)
   where
     other : (m : ℕ) → number_of x ≡ m → (m ≡ 20 → ⊥) → ServedAt ns (place_of x)
@@ -90,7 +88,7 @@ right-line ns k s e =
     let one = e ∙ served-code (get_or ns (k - 1) 0) s.served in
     ap (bank_line k (get_or ns (k - 1) 0)) (codes_at ns (k - 1) (omega (arith, s.from_one, s.to_last)) ∙ sym (ap (λ (l : List ℕ). get_or l 0 0) one))
 
-module _ (ns cs : List ℕ) (x : Refusal) (e : judged ns cs ≡ Refused x) where
+module _ (ns cs : List ℕ) (x : Refusal) (e : judged ns cs ≡ Err x) where
   pub proposals-right : number_of x ≡ 20 → proposals_text ns cs ≡ refused_text x ++ line_at ns (right_codes ns) (place_of x)
   unfolding proposals_text
   proposals-right n = ap (judged_text ns (right_codes ns)) e ∙ rw (eq-eqb (number_of x) 20 n) refl

@@ -14,8 +14,7 @@ use Rattle.texts.proofs.Longest.{decimal-most, spaced-length, spaced-none}
 use Rattle.refusal.specs.declared.Refusal.{Refusal}
 use Rattle.refusal.specs.Numbers.{number_of, place_of}
 use Rattle.rx_bw.specs.Width.{name_of}
-use Rattle.bank_widths.specs.declared.Answer.{Answer}
-use Rattle.bank_widths.specs.declared.Answer.TheVariants.{Done, Refused}
+use Rattle.std.specs.Prelude.{Result, Ok, Err}
 use Rattle.bank_widths.specs.Lists.{judged, right_codes, found}
 use Rattle.bank_list.specs.declared.Found.{Found}
 use Rattle.bank_list.specs.declared.Found.TheVariants.{Needs, Proposals, Wrong}
@@ -53,9 +52,9 @@ needs-most : (ns : List ℕ) → length (needs_text ns) ≤ longest
 unfolding needs_text
 needs-most ns = by (found ns (length ns)) refl
   where
-    by : (a : Answer) → found ns (length ns) ≡ a → length (found_text ns a) ≤ longest
-    by (Done k) e = omega (arith, banks-most 0 ns (right_codes ns), found-few ns (length ns) k e)
-    by (Refused x) e = omega (arith, refused-most x)
+    by : (a : Result ℕ Refusal) → found ns (length ns) ≡ a → length (found_text ns a) ≤ longest
+    by (Ok k) e = omega (arith, banks-most 0 ns (right_codes ns), found-few ns (length ns) k e)
+    by (Err x) e = omega (arith, refused-most x)
 
 proposals-most : (ns cs : List ℕ) → length (proposals_text ns cs) ≤ longest
 unfolding proposals_text line_at
@@ -65,9 +64,9 @@ proposals-most ns cs = by (judged ns cs)
     right x true = bank-most _ _ _
     right x false = omega arith
 
-    by : (a : Answer) → length (judged_text ns (right_codes ns) a) ≤ longest
-    by (Done k) = omega arith
-    by (Refused x) = simp length-append (omega (arith, refused-most x, right x (eqb (number_of x) 20)))
+    by : (a : Result ℕ Refusal) → length (judged_text ns (right_codes ns) a) ≤ longest
+    by (Ok k) = omega arith
+    by (Err x) = simp length-append (omega (arith, refused-most x, right x (eqb (number_of x) 20)))
 
 pub answer-most : (l : Listed) → length (answer_text l) ≤ longest
 unfolding answer_text

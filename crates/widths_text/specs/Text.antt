@@ -1,14 +1,12 @@
 -- The answer of the program `widths` as text, to the byte (REFERENCE, "Widths for banks").
 -- Assumes nothing.
-use Rattle.std.specs.Prelude.{ℕ, suc, ◌*◌, ◌-◌, ◌/◌, ◌≤◌, ◌≡◌, true, cond, List, [], ◌∷◌, ◌++◌, eqb, ltb, length, get_or, take}
+use Rattle.std.specs.Prelude.{ℕ, suc, ◌*◌, ◌-◌, ◌/◌, ◌≤◌, ◌≡◌, true, cond, List, [], ◌∷◌, ◌++◌, eqb, ltb, length, get_or, take, Result, Ok, Err}
 use Rattle.reading.specs.Decimal.{digit, decimal}
 use Rattle.reading.specs.Level.{tenths}
 use Rattle.texts.specs.Words.{word, line}
 use Rattle.refusal.specs.declared.Refusal.{Refusal}
 use Rattle.refusal.specs.Numbers.{number_of, place_of}
 use Rattle.rx_bw.specs.Width.{divisor, name_of}
-use Rattle.bank_widths.specs.declared.Answer.{Answer}
-use Rattle.bank_widths.specs.declared.Answer.TheVariants.{Done, Refused}
 use Rattle.width_rule.specs.Rule.{is_served}
 use Rattle.bank_widths.specs.Lists.{judged, right_codes, found}
 use Rattle.bank_list.specs.declared.Found.{Found}
@@ -63,18 +61,18 @@ refused_text x =
 -- ---- answers
 
 -- by what the search answers: a line for each bank with its right code, or the refusal and nothing else
-abbrev pub found_text : List ℕ → Answer → List ℕ
-found_text ns (Done n) = bank_lines 0 ns (right_codes ns)
-found_text ns (Refused x) = refused_text x
+abbrev pub found_text : List ℕ → Result ℕ Refusal → List ℕ
+found_text ns (Ok n) = bank_lines 0 ns (right_codes ns)
+found_text ns (Err x) = refused_text x
 
 -- the answer to needs alone
 unfoldable pub needs_text : List ℕ → List ℕ
 needs_text ns = found_text ns (found ns (length ns))
 
 -- by what the judgement is: ok, or the refusal, and behind it the bank's line with its right code where the one proposed is not the narrowest, 20
-abbrev pub judged_text : List ℕ → List ℕ → Answer → List ℕ
-judged_text ns right (Done n) = word "ok\n"
-judged_text ns right (Refused x) = refused_text x ++ cond (eqb (number_of x) 20) (line_at ns right (place_of x)) []
+abbrev pub judged_text : List ℕ → List ℕ → Result ℕ Refusal → List ℕ
+judged_text ns right (Ok n) = word "ok\n"
+judged_text ns right (Err x) = refused_text x ++ cond (eqb (number_of x) 20) (line_at ns right (place_of x)) []
 
 -- the answer to needs with proposed codes
 unfoldable pub proposals_text : List ℕ → List ℕ → List ℕ

@@ -11,7 +11,6 @@ ghost use Rattle.bank_list.specs.Banks.{most_kept};
 ghost use Rattle.widths_text.specs.Text.{longest, millionths, bank_line, line_at, bank_lines, refused_text, ServedAt, needs_text, proposals_text, answer_text};
 
 use bank_list::{Found, KEPT, Listed};
-use bank_widths::Answer;
 use refusal::Refusal;
 use texts::{put_byte, put_form, put_text};
 
@@ -52,10 +51,8 @@ fn put_banks(out: &mut [u8], at: usize, needs: &[u64], codes: &[u8]) -> usize
     ensures { Puts (bank_lines 0 needs.now codes.now) at out.old result out.new }
 {
     let mut to = at;
-    let mut i: usize = 0;
-    while i < needs.len() {
-        to = put_bank(out, to, i as u64 + 1, needs[i], codes[i]);
-        i += 1;
+    for (i, need) in needs.iter().enumerate() {
+        to = put_bank(out, to, i as u64 + 1, *need, codes[i]);
     }
     to
 }
@@ -81,7 +78,7 @@ fn put_right(out: &mut [u8], at: usize, needs: &[u64], bank: usize) -> usize
     let need = needs[bank - 1];
     let one = [need];
     let mut code = [0u8; 1];
-    bank_widths::find(&one, &mut code);
+    let _ = bank_widths::find(&one, &mut code);
     put_bank(out, at, bank as u64, need, code[0])
 }
 
@@ -93,18 +90,16 @@ fn put_needs(out: &mut [u8], at: usize, needs: &[u64]) -> usize
 {
     let mut codes = [0u8; KEPT];
     let n = needs.len();
-    let answer = bank_widths::find(needs, &mut codes[0..n]);
-    match answer {
-        Answer::Done(_) => put_banks(out, at, needs, &codes[0..n]),
-        Answer::Refused(why) => put_refused(out, at, why),
+    match bank_widths::find(needs, &mut codes[..n]) {
+        Ok(_) => put_banks(out, at, needs, &codes[..n]),
+        Err(why) => put_refused(out, at, why),
     }
 }
 
 fn put_proposals(out: &mut [u8], at: usize, needs: &[u64], codes: &[u8]) -> usize
     ensures { Puts (proposals_text needs.now codes.now) at out.old result out.new }
 {
-    let answer = bank_widths::check(needs, codes);
-    let Answer::Refused(why) = answer else {
+    let Err(why) = bank_widths::check(needs, codes) else {
         return put_text(out, at, b"ok\n");
     };
     let to = put_refused(out, at, why);

@@ -1,55 +1,67 @@
 -- `bank_said` meets its contract: each return stands under the tests that led there.
 -- Assumes nothing.
-use mathlib.Core.Path.{◌≡◌, ap, sym, ◌∙◌}
+use mathlib.Core.Path.{◌≡◌, ap, ap₂, sym, ◌∙◌}
+use mathlib.Core.Bool.{Bool, ◌&&◌}
 use mathlib.Core.List.{List}
-use Prim.Native.Nat.{ℕ, ◌+◌, ◌-◌, ◌<◌}
+use Prim.Native.Nat.{ℕ, ◌≤◌}
 use native.Mathlib.Omega.{arith}
 use lib.ListN.{length, take}
-use Rattle.bank_list.specs.declared.Class.TheVariants.{Digit}
-use Rattle.bank_list.specs.declared.Number.{Number}
-use Rattle.bank_list.specs.Lines.{is_number, leading_of, number_of, numbered, proposal_said}
-use Rattle.bank_list.proofs.Said.{bank-apart, bank-code, bank-codeless, bank-need, bank-none, front, tail}
-use Rattle.bank_list.proofs.Scans.{leading_le}
+use lib.Seq.{length-take-le}
+use Rattle.std.specs.List.{prefix_len}
+use Rattle.bank_list.specs.Lines.{is_digit, is_number, leading_of, proposal_said}
+use Rattle.bank_list.proofs.Said.{bank-apart, bank-code, bank-need, bank-none, tail}
+use Rattle.bank_list.proofs.Scans.{leading_count, leading_le}
 use Rattle.bank_list.proofs.bank_said.Goals as goal
+use Rattle.bank_list.proofs.bank_said.Goals.{else-is_separator-via-then-is_separator+else-is_number, else-is_separator-via-else-is_separator}
 
--- the need as its number
-module _ (l : List ℕ) (d : ℕ) (n : Number) where
-  need : n ≡ numbered (number_of (take (d - 0) l)) → n ≡ numbered (number_of (take d l))
-  need e = e ∙ ap (λ (s : List ℕ). numbered (number_of s)) (front d l)
+-- the digits in the line's own terms
+module _ (l : List ℕ) (d : ℕ) (e : d ≡ prefix_len is_digit l) where
+  leads : d ≡ leading_of is_digit l
+  leads = e ∙ leading_count is_digit l
 
-  -- something stands behind the need
-  more : d ≡ leading_of Digit l → (d ≡ length l → ⊥) → d < length l
-  more e h = omega (arith, leading_le Digit l)
+  within : d ≤ length l
+  within = omega (arith, leads, leading_le is_digit l)
 
 pub returns-then-d-eq0 : goal.returns-then-d-eq0
-returns-then-d-eq0 c = sym (bank-none _ _ c.leading-d.ensures c.if-d-eq0.true)
+returns-then-d-eq0 c = sym (bank-none _ _ (leads _ _ c.digits-d.ensures) c.if-d-eq0.true)
 
 pub slice_bounds-number_of-end : goal.slice_bounds-number_of-end
-slice_bounds-number_of-end c = omega (arith, leading_le Digit c.args.body.now, c.leading-d.ensures)
+slice_bounds-number_of-end c =
+    let h = within c.args.body.now c.digits-d.result c.digits-d.ensures in
+    omega (arith, h, length-take-le c.digits-d.result c.args.body.now h)
 
-pub returns-then-d-body : goal.returns-then-d-body
-returns-then-d-body c =
-    c.need_said.ensures
-    ∙ sym (bank-need _ _ c.leading-d.ensures c.if-d-eq0.false _ (need _ _ _ c.number_of-need.ensures) c.if-d-body.true)
+pub slice_bounds-split_first-count : goal.slice_bounds-split_first-count
+slice_bounds-split_first-count c = omega (arith, within c.args.body.now c.digits-d.result c.digits-d.ensures)
+
+pub slice_bounds-split_first-start : goal.slice_bounds-split_first-start
+slice_bounds-split_first-start c = omega (arith, within c.args.body.now c.digits-d.result c.digits-d.ensures)
+
+pub returns-in_default : goal.returns-in_default
+returns-in_default c =
+    let l = c.args.body.now in
+    let d = c.digits-d.result in
+    let none = sym (ap length (tail d l)) ∙ c.in_default.ensures.cases in
+    c.need_said.ensures ∙ sym (bank-need l d (leads l d c.digits-d.ensures) c.if-d-eq0.false _ c.number_of-need.ensures none)
 
 pub returns-then-is_number : goal.returns-then-is_number
 returns-then-is_number c =
-    let s = tail (c.leading-d.result + 1) c.args.body.now in
+    let l = c.args.body.now in
+    let d = c.digits-d.result in
+    let rest = sym (tail d l) ∙ c.in-Some.ensures.cases.0 in
+    let passes = ap₂ ◌&&◌ (sym c.is_separator.ensures ∙ c.if-is_separator.true) (sym c.is_number.ensures ∙ c.if-is_number.true) in
     c.proposal_said.ensures
-    ∙ ap (proposal_said c.number_of-need.result) (c.number_of.ensures ∙ ap (λ (s : List ℕ). numbered (number_of s)) s)
-    ∙ sym (bank-code _ _ c.leading-d.ensures c.if-d-eq0.false _ (need _ _ _ c.number_of-need.ensures)
-    (more _ _ c.number_of-need.result c.leading-d.ensures c.if-d-body.false)
-    (sym c.is_of.ensures ∙ c.if-is_of.true) (ap is_number (sym s) ∙ sym c.is_number.ensures ∙ c.if-is_number.true))
-
-pub returns-then-is_of : goal.returns-then-is_of
-returns-then-is_of c =
-    let s = tail (c.leading-d.result + 1) c.args.body.now in
-    sym (bank-codeless _ _ c.leading-d.ensures c.if-d-eq0.false _ (need _ _ _ c.number_of-need.ensures)
-    (more _ _ c.number_of-need.result c.leading-d.ensures c.if-d-body.false)
-    (sym c.is_of.ensures ∙ c.if-is_of.true) (ap is_number (sym s) ∙ sym c.is_number.ensures ∙ c.if-is_number.false))
+    ∙ ap (proposal_said c.number_of-need.result) c.number_of.ensures
+    ∙ sym (bank-code l d (leads l d c.digits-d.ensures) c.if-d-eq0.false _ c.number_of-need.ensures _ _ rest passes)
 
 pub returns : goal.returns
 returns c =
-    sym (bank-apart _ _ c.leading-d.ensures c.if-d-eq0.false _ (need _ _ _ c.number_of-need.ensures)
-    (more _ _ c.number_of-need.result c.leading-d.ensures c.if-d-body.false)
-    (sym c.is_of.ensures ∙ c.if-is_of.false))
+    let l = c.args.body.now in
+    let d = c.digits-d.result in
+    let rest = sym (tail d l) ∙ c.in-Some.ensures.cases.0 in
+    let apart = bank-apart l d (leads l d c.digits-d.ensures) c.if-d-eq0.false _ c.number_of-need.ensures _ _ rest in
+    elim c.else-is_separator.branch [
+      | else-is_separator-via-then-is_separator+else-is_number w ↦ sym
+          (apart (ap₂ ◌&&◌ (sym c.is_separator.ensures ∙ w.if-is_separator.true) (sym w.is_number.ensures ∙ w.if-is_number.false)))
+      | else-is_separator-via-else-is_separator w ↦ sym
+          (apart (ap (λ (b : Bool). b && is_number c.in-Some.code.now) (sym c.is_separator.ensures ∙ w.if-is_separator.false)))
+    ]

@@ -5,51 +5,52 @@ use mathlib.Core.List.{List}
 use Prim.Native.Nat.{ℕ, ◌+◌, ◌-◌, ◌≤◌}
 use native.Mathlib.Omega.{arith}
 use lib.ListN.{drop, length, length-drop, take}
-use Rattle.bank_list.specs.declared.Class.TheVariants.{Inside}
+use lib.Seq.{length-take-le}
 use Rattle.bank_list.specs.declared.Line.{Line}
-use Rattle.bank_list.specs.Lines.{body_of, leading_of, line_of}
-use Rattle.bank_list.proofs.Scans.{leading_le}
-use Rattle.bank_list.proofs.Said.{front, tail}
+use Rattle.bank_list.specs.Lines.{body_of, is_inside, leading_of, line_of}
+use Rattle.bank_list.proofs.Scans.{leading_count, leading_le}
+use Rattle.bank_list.proofs.Said.{tail}
 use Rattle.bank_list.proofs.Turns.{going_end, going-last, going-newline, going_start}
 use Rattle.bank_list.proofs.read.Goals as goal
 
--- the n bytes of the line at a place of the text
+-- what is left of the text, and the n bytes of the line there
+abbrev rest : List ℕ → ℕ → List ℕ
+rest text at = take (length text - at) (drop at text)
+
 module _ (text : List ℕ) (at n : ℕ) where
-  abbrev rest : List ℕ
-  rest = take (length text - at) (drop at text)
-
   -- the line's length in the text's own terms
-  long : n ≡ leading_of Inside rest → n ≡ leading_of Inside (drop at text)
-  long e = e ∙ ap (leading_of Inside) (tail at text)
+  long : n ≡ leading_of is_inside (rest text at) → n ≡ leading_of is_inside (drop at text)
+  long e = e ∙ ap (leading_of is_inside) (tail at text)
 
-  within : at ≤ length text → n ≡ leading_of Inside rest → at + n ≤ length text
-  within h e = omega (arith, long e, leading_le Inside (drop at text), length-drop at text)
+  within : at ≤ length text → n ≡ leading_of is_inside (rest text at) → at + n ≤ length text
+  within h e = omega (arith, long e, leading_le is_inside (drop at text), length-drop at text)
 
   -- what the line says
-  says : (said : Line) → said ≡ line_of (body_of (take (n - 0) rest)) → said ≡ line_of (body_of (take n (drop at text)))
-  says said e = e ∙ ap (λ (s : List ℕ). line_of (body_of s)) (front n rest ∙ ap (take n) (tail at text))
+  says : (said : Line) → said ≡ line_of (body_of (take n (rest text at))) → said ≡ line_of (body_of (take n (drop at text)))
+  says said e = e ∙ ap (λ (s : List ℕ). line_of (body_of s)) (ap (take n) (tail at text))
 
 pub loop-at-init : goal.loop-at-init
 loop-at-init c = going_start _ _ c.empty-l.ensures
 
 pub slice_bounds-line_said-end : goal.slice_bounds-line_said-end
 slice_bounds-line_said-end c =
-    let text = c.args.text.now in
-    omega (arith, c.leading-n.ensures, leading_le Inside (take (length text - c.loop-at.at) (drop c.loop-at.at text)))
+    let r = rest c.args.text.now c.loop-at.at in
+    let h : c.line_length-n.result ≤ length r = omega (arith, c.line_length-n.ensures ∙ leading_count is_inside r, leading_le is_inside r) in
+    omega (arith, h, length-take-le c.line_length-n.result r h)
 
 pub overflow_add-at : goal.overflow_add-at
-overflow_add-at c = omega (arith, within c.args.text.now _ _ c.loop-at.invariant.inside c.leading-n.ensures)
+overflow_add-at c = omega (arith, within c.args.text.now _ _ c.loop-at.invariant.inside (c.line_length-n.ensures ∙ leading_count is_inside (rest c.args.text.now c.loop-at.at)))
 
 pub loop-at-preserved-then-at-text : goal.loop-at-preserved-then-at-text
 loop-at-preserved-then-at-text c =
-    going-newline _ _ _ _ c.loop-at.invariant _ (long c.args.text.now _ _ c.leading-n.ensures) c.loop-at-test.true _ _
-    (says c.args.text.now c.loop-at.at c.leading-n.result _ c.line_said.ensures) c.after_line-next.ensures c.if-at-text.true
+    going-newline _ _ _ _ c.loop-at.invariant _ (long c.args.text.now _ _ (c.line_length-n.ensures ∙ leading_count is_inside (rest c.args.text.now c.loop-at.at))) c.loop-at-test.true _ _
+    (says c.args.text.now c.loop-at.at c.line_length-n.result _ c.line_said.ensures) c.after_line-next.ensures c.if-at-text.true
 
 pub loop-at-preserved : goal.loop-at-preserved
 loop-at-preserved c =
-    going-last _ _ _ _ c.loop-at.invariant _ (long c.args.text.now _ _ c.leading-n.ensures) c.loop-at-test.true _ _
-    (says c.args.text.now c.loop-at.at c.leading-n.result _ c.line_said.ensures) c.after_line-next.ensures c.if-at-text.false
-    (within c.args.text.now _ _ c.loop-at.invariant.inside c.leading-n.ensures)
+    going-last _ _ _ _ c.loop-at.invariant _ (long c.args.text.now _ _ (c.line_length-n.ensures ∙ leading_count is_inside (rest c.args.text.now c.loop-at.at))) c.loop-at-test.true _ _
+    (says c.args.text.now c.loop-at.at c.line_length-n.result _ c.line_said.ensures) c.after_line-next.ensures c.if-at-text.false
+    (within c.args.text.now _ _ c.loop-at.invariant.inside (c.line_length-n.ensures ∙ leading_count is_inside (rest c.args.text.now c.loop-at.at)))
 
 pub returns : goal.returns
 returns c = going_end _ _ _ _ c.loop-at.invariant c.loop-at-test.false

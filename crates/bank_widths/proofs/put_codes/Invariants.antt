@@ -1,13 +1,9 @@
 use mathlib.Core.Path.{◌≡◌}
-use Prim.Native.Nat.{◌-◌, ◌≤◌}
-use lib.ListN.{drop, length, take}
+use lib.ListN.{drop, take}
 use Rattle.bank_widths.specs.Lists.{judged_from, right_codes}
 use Rattle.bank_widths.proofs.put_codes.Given as goal
 
 abbrev pub invariant-loop-i : goal.invariant-loop-i
 invariant-loop-i l =
-    (l.i ≤ length l.needs) × (length l.codes ≡ length l.initial.codes) × (take l.i l.codes ≡ take l.i (right_codes l.needs))
+    (take l.i l.codes ≡ take l.i (right_codes l.needs))
     × (judged_from 0 l.needs (right_codes l.needs) ≡ judged_from l.i (drop l.i l.needs) (drop l.i (right_codes l.needs)))
-
-abbrev pub decreases-loop-i : goal.decreases-loop-i
-decreases-loop-i l = length l.needs - l.i

@@ -9,7 +9,7 @@ use Rattle.widths_text.proofs.put_banks.Goals as goal
 
 pub loop-i-init : goal.loop-i-init
 unfolding bank_lines
-loop-i-init c = (omega arith, refl, puts_none _ _)
+loop-i-init c = (refl, puts_none _ _)
 
 pub loop-i-preserved : goal.loop-i-preserved
 loop-i-preserved c =
@@ -17,4 +17,4 @@ loop-i-preserved c =
     let l = c.loop-i in
     let a = c.args in
     let line = lines_next a.needs.now a.codes.now l.i (omega arith) (omega arith) in
-    (omega arith, puts-length put ∙ l.invariant.1, puts-as _ line (puts_then l.invariant.2 put))
+    (puts-length put ∙ l.invariant.0, puts-as _ line (puts_then l.invariant.1 put))

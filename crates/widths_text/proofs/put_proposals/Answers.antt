@@ -10,22 +10,22 @@ use Rattle.widths_text.proofs.put_proposals.Goals as goal
 pub returns-in_default : goal.returns-in_default
 unfolding proposals_text
 returns-in_default c =
-    puts-as _ (ap (judged_text _ _) (sym c.check-answer.ensures ∙ c.in_default.is)) c.put_text.ensures
+    puts-as _ (ap (judged_text _ _) (sym c.check.ensures ∙ c.in_default.is)) c.put_text.ensures
 
 pub put_right-requires : goal.put_right-requires
 put_right-requires c =
     rw c.place.ensures
-    (refused-served _ _ _ (sym c.check-answer.ensures ∙ c.in-Refused.is) (omega arith))
+    (refused-served _ _ _ (sym c.check.ensures ∙ c.in-Err.is) (omega arith))
 
 pub returns-then-number-eq20 : goal.returns-then-number-eq20
 returns-then-number-eq20 c =
     let right = rw c.place.ensures at c.put_right.ensures in
     puts-as _
-    (proposals-right _ _ _ (sym c.check-answer.ensures ∙ c.in-Refused.is) (sym c.number.ensures ∙ c.if-number-eq20.true))
+    (proposals-right _ _ _ (sym c.check.ensures ∙ c.in-Err.is) (sym c.number.ensures ∙ c.if-number-eq20.true))
     (puts_then c.put_refused-to.ensures right)
 
 pub returns-else-number-eq20 : goal.returns-else-number-eq20
 returns-else-number-eq20 c =
     puts-as _
-    (proposals-other _ _ _ (sym c.check-answer.ensures ∙ c.in-Refused.is) (λ e. c.if-number-eq20.false (c.number.ensures ∙ e)))
+    (proposals-other _ _ _ (sym c.check.ensures ∙ c.in-Err.is) (λ e. c.if-number-eq20.false (c.number.ensures ∙ e)))
     c.put_refused-to.ensures

@@ -8,11 +8,11 @@ use lib.ListN.{get_or, take}
 use Rattle.rx_bw.specs.Width.{is_named}
 use Rattle.rx_bw.proofs.Names.{names_at}
 use Rattle.bank_widths.specs.Keys.{key_of, keys_below, listed_keys}
-use Rattle.bank_widths.proofs.put_keys.Goals as goal
+use Rattle.bank_widths.proofs.ListedKeys.new.Goals as goal
 
 pub loop-code-init : goal.loop-code-init
 unfolding keys_below
-loop-code-init c = (omega arith, omega arith, refl, refl)
+loop-code-init c = (omega arith, omega arith, refl)
 
 pub put_key-count-requires : goal.put_key-count-requires
 put_key-count-requires c = (
@@ -26,11 +26,12 @@ loop-code-preserved c =
     let p = c.put_key-count.ensures in
     let l = c.loop-code in
     let more : List ℕ = cond (is_named l.code) (key_of l.code ∷ []) [] in
-    let next : take l.count l.keys ++ more ≡ keys_below (l.code + 1) = ap (λ (ks : List ℕ). ks ++ more) l.invariant.3 ∙ sym (ap keys_below (add-one l.code)) in
-    (omega arith, omega arith, p.upper_bound.1 ∙ l.invariant.2, p.keys_after ∙ next)
+    let next : take l.count l.all ++ more ≡ keys_below (l.code + 1) = ap (λ (ks : List ℕ). ks ++ more) l.invariant.2 ∙ sym (ap keys_below (add-one l.code)) in
+    (omega arith, p.upper_bound.1 ∙ l.invariant.1, p.keys_after ∙ next)
 
-pub returns : goal.returns
+pub invariant_of-result : goal.invariant_of-result
 unfolding listed_keys
-returns c =
+invariant_of-result c =
     let l = c.loop-code in
-    (omega arith, l.invariant.3 ∙ ap keys_below (omega (arith, l.invariant.0, c.loop-code-test.false)))
+    let last : l.code ≡ 256 = omega arith in
+    record { within = omega arith; listed = l.invariant.2 ∙ ap keys_below last }
