@@ -19,6 +19,7 @@ use Rattle.bank_list.specs.Lines.{body_of, is_number, is_digit, is_separator, le
 use Rattle.bank_list.specs.Lines.{bank_of, behind_need, line_of, need_said, proposal_said, skips}
 use Rattle.bank_list.specs.Banks.{Paired, Parsed, after_line, banks, faulty, parsed, parsed_from}
 use Rattle.bank_list.proofs.States.{apart, paired-after}
+use Rattle.bank_list.proofs.Turns.{faulty-stays}
 
 -- ---- codes for all or for none
 
@@ -142,11 +143,6 @@ pub record FirstWrong (p : Parsed) (k : ℕ) (ls : List (List ℕ)) (j : ℕ) (f
   pub sound : parsed_from p k before ≡ banks needs codes
   pub place : j ≡ suc (k + length before)
   pub wrong : after_line (banks needs codes) j (line_of (body_of line)) ≡ faulty j f
-
-faulty-stays : (j : ℕ) (f : Fault) (k : ℕ) (ls : List (List ℕ)) → parsed_from (faulty j f) k ls ≡ faulty j f
-unfolding parsed_from
-faulty-stays j f k [] = refl
-faulty-stays j f k (l ∷ ls) = faulty-stays j f (suc k) ls
 
 parsed-append : (p : Parsed) (k : ℕ) (xs bs : List (List ℕ)) → parsed_from p k (xs ++ bs) ≡ parsed_from (parsed_from p k xs) (k + length xs) bs
 unfolding parsed_from

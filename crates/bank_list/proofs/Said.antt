@@ -3,15 +3,15 @@
 use mathlib.Core.Path.{◌≡◌, refl, ap, sym, ◌∙◌}
 use mathlib.Core.Bool.{Bool, cond, false, true, ◌&&◌, false≢true}
 use mathlib.Core.List.{List, [], ◌∷◌}
-use Prim.Native.Nat.{ℕ, ◌+◌, ◌-◌, ◌<◌, ◌≤◌}
+use Prim.Native.Nat.{ℕ, ◌-◌, ◌<◌, ◌≤◌}
 use native.Mathlib.Omega.{arith}
 use borrow.Author.Tests.{eq-eqb, ne_eqb}
 use lib.Dec.{eqb}
-use lib.ListN.{drop, drop_of_length-le, get_or, length, length-drop, take}
+use lib.ListN.{drop, get_or, length, length-drop, take}
 use lib.Seq.{take_all}
 use Rattle.bank_list.specs.declared.Fault.TheVariants.{NotABank}
 use Rattle.bank_list.specs.declared.Line.TheVariants.{Skipped, Wrong}
-use Rattle.std.specs.Prelude.{Option, Some, None}
+use Rattle.std.specs.Prelude.{Option}
 use Rattle.std.specs.List.{list_all}
 use Rattle.bank_list.specs.Lines.{body_length, body_of, is_number, is_digit, is_blank, is_separator, leading_of, number_of, numbered}
 use Rattle.bank_list.specs.Lines.{bank_of, behind_need, line_of, need_said, proposal_said, skips}

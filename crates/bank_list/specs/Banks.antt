@@ -1,6 +1,6 @@
 -- What the lines of a list of banks give together (REFERENCE, "Widths for banks"), and how it is handed over.
 -- Assumes nothing.
-use Rattle.std.specs.Prelude.{ℕ, suc, min, ◌≡◌, cond, List, [], ◌∷◌, ◌++◌, ltb, length, take, set, replicate}
+use Rattle.std.specs.Prelude.{ℕ, suc, min, ◌≡◌, cond, List, [], ◌∷◌, ◌++◌, ltb, length, take, set, replicate, Result, Ok, Err}
 use Rattle.bank_list.specs.declared.Fault.{Fault}
 use Rattle.bank_list.specs.declared.Fault.TheVariants.{CodeLacking, CodeSurplus}
 use Rattle.bank_list.specs.declared.Found.{Found}
@@ -8,6 +8,7 @@ use Rattle.bank_list.specs.declared.Found.TheVariants as found
 use Rattle.bank_list.specs.declared.Line.{Line}
 use Rattle.bank_list.specs.declared.Line.TheVariants.{Skipped, Need, Proposal, Wrong}
 use Rattle.bank_list.specs.declared.Listed.{Listed}
+use Rattle.bank_list.specs.declared.WrongLine.{WrongLine}
 use Rattle.bank_list.specs.Lines.{lines_of, body_of, line_of}
 
 -- The needs and the codes so far, no codes where no bank has one; or the first wrong line.
@@ -55,19 +56,22 @@ most_kept = 33
 unfoldable pub kept : List ℕ → List ℕ
 kept xs = take most_kept (xs ++ replicate most_kept 0)
 
--- zeros alone
-abbrev pub empty_of : Found → Listed
-empty_of f = record { found = f; needs = kept []; codes = kept [] }
-
 -- needs alone where there are no codes
 abbrev pub found_of : List ℕ → List ℕ → Found
 found_of ns [] = found.Needs (min (length ns) most_kept)
 found_of ns (c ∷ cs) = found.Proposals (min (length ns) most_kept)
 
+abbrev pub handed : List ℕ → List ℕ → Listed
+handed ns cs = record { found = found_of ns cs; needs = kept ns; codes = kept cs }
+
+-- line k is wrong
+abbrev pub wrong_at : ℕ → Fault → WrongLine
+wrong_at k f = record { line = k; fault = f }
+
 -- Where a line is wrong no bank is handed over.
-unfoldable pub listed : Parsed → Listed
-listed (banks ns cs) = record { found = found_of ns cs; needs = kept ns; codes = kept cs }
-listed (faulty k f) = empty_of (found.Wrong k f)
+unfoldable pub listed : Parsed → Result Listed WrongLine
+listed (banks ns cs) = Ok (handed ns cs)
+listed (faulty k f) = Err (wrong_at k f)
 
 -- ---- for the contracts of single steps
 

@@ -2,11 +2,11 @@
 // specs/Lines.antt says what a line is and what it says, specs/Banks.antt what the lines of a text give together.
 #![tactic(auto)]
 
-ghost use Rattle.std.specs.Prelude.{◌≡◌, ◌+◌, ◌*◌, ◌-◌, min};
+ghost use Rattle.std.specs.Prelude.{◌≡◌, ◌+◌, ◌*◌, ◌-◌, [], min, Ok};
 ghost use Rattle.std.specs.List.{list_all, prefix_len};
 ghost use Rattle.bank_list.specs.Lines.{body_length, body_of, is_blank, is_digit, is_inside, is_number, is_separator, number_of, numbered};
 ghost use Rattle.bank_list.specs.Lines.{bank_of, line_of, need_said, proposal_said, skips};
-ghost use Rattle.bank_list.specs.Banks.{Paired, Parsed, after_line, empty_of, listed, most_kept, parsed, put_at};
+ghost use Rattle.bank_list.specs.Banks.{Paired, Parsed, after_line, banks, listed, most_kept, parsed, put_at};
 
 // What is wrong with a line: it cannot be read, its need is past 64 bits, its code is past a byte, it lacks a code where an earlier bank has one,
 // or it has one where an earlier bank has none.
@@ -19,18 +19,24 @@ pub enum Fault {
     CodeSurplus,
 }
 
-// How many banks are kept, with needs alone or with proposed codes, or the first wrong line, counted from 1.
+// The first wrong line, counted from 1.
+#[derive(Clone, Copy)]
+pub struct WrongLine {
+    pub line: usize,
+    pub fault: Fault,
+}
+
+// How many banks are kept, with needs alone or with proposed codes.
 #[derive(Clone, Copy)]
 pub enum Found {
     Needs(usize),
     Proposals(usize),
-    Wrong { line: usize, fault: Fault },
 }
 
 // One more than a list may have tells as much as any number does.
 pub const KEPT: usize = 33;
 
-// The banks kept, with zeros behind them; zeros alone where a line is wrong.
+// The banks kept, with zeros behind them.
 #[derive(Clone, Copy)]
 pub struct Listed {
     pub found: Found,
@@ -212,93 +218,75 @@ fn put(l: Listed, found: Found, at: usize, need: u64, code: u8) -> Listed
     }
 }
 
-fn empty(found: Found) -> Listed
-    ensures { result ≡ empty_of found }
+fn empty() -> Listed
+    ensures { Ok result ≡ listed (banks [] []) }
 {
     Listed {
-        found,
+        found: Found::Needs(0),
         needs: [0; 33],
         codes: [0; 33],
     }
 }
 
 // What is found with one need more, on this line.
-fn with_need(l: Listed, line: usize, need: u64) -> Listed
-    ensures { (p : Parsed) → Paired p → l ≡ listed p → result ≡ listed (after_line p line (Line.Need need)) }
+fn with_need(l: Listed, line: usize, need: u64) -> Result<Listed, WrongLine>
+    ensures { (p : Parsed) → Paired p → Ok l ≡ listed p → result ≡ listed (after_line p line (Line.Need need)) }
 {
-    let found = l.found;
-    match found {
-        Found::Needs(count) => put(l, Found::Needs(one_more(count)), count, need, 0),
-        Found::Proposals(_) => empty(Found::Wrong {
+    match l.found {
+        Found::Needs(count) => Ok(put(l, Found::Needs(one_more(count)), count, need, 0)),
+        Found::Proposals(_) => Err(WrongLine {
             line,
             fault: Fault::CodeLacking,
         }),
-        Found::Wrong { line: _, fault: _ } => l,
     }
 }
 
 // What is found with one proposal more, on this line.
-#[tactic(auto, using(crate::proofs::States::proposal_steps))]
-fn with_proposal(l: Listed, line: usize, need: u64, code: u8) -> Listed
-    ensures { (p : Parsed) → Paired p → l ≡ listed p → result ≡ listed (after_line p line (Line.Proposal need code)) }
+fn with_proposal(l: Listed, line: usize, need: u64, code: u8) -> Result<Listed, WrongLine>
+    ensures { (p : Parsed) → Paired p → Ok l ≡ listed p → result ≡ listed (after_line p line (Line.Proposal need code)) }
 {
-    let found = l.found;
-    match found {
+    match l.found {
         Found::Needs(count) => {
             if count == 0 {
-                return put(l, Found::Proposals(1), 0, need, code);
+                return Ok(put(l, Found::Proposals(1), 0, need, code));
             }
-            empty(Found::Wrong {
+            Err(WrongLine {
                 line,
                 fault: Fault::CodeSurplus,
             })
         }
-        Found::Proposals(count) => put(l, Found::Proposals(one_more(count)), count, need, code),
-        Found::Wrong { line: _, fault: _ } => l,
+        Found::Proposals(count) => Ok(put(l, Found::Proposals(one_more(count)), count, need, code)),
     }
 }
 
-// A wrong line is told, unless an earlier one is.
-fn with_fault(l: Listed, line: usize, fault: Fault) -> Listed
-    ensures { (p : Parsed) → Paired p → l ≡ listed p → result ≡ listed (after_line p line (Line.Wrong fault)) }
-{
-    let found = l.found;
-    match found {
-        Found::Wrong { line: _, fault: _ } => l,
-        Found::Needs(_) => empty(Found::Wrong { line, fault }),
-        Found::Proposals(_) => empty(Found::Wrong { line, fault }),
-    }
-}
-
-fn after_line(l: Listed, line: usize, said: Line) -> Listed
-    ensures { (p : Parsed) → Paired p → l ≡ listed p → result ≡ listed (after_line p line said) }
+fn after_line(l: Listed, line: usize, said: Line) -> Result<Listed, WrongLine>
+    ensures { (p : Parsed) → Paired p → Ok l ≡ listed p → result ≡ listed (after_line p line said) }
 {
     match said {
-        Line::Skipped => l,
+        Line::Skipped => Ok(l),
         Line::Need(need) => with_need(l, line, need),
         Line::Proposal(need, code) => with_proposal(l, line, need, code),
-        Line::Wrong(fault) => with_fault(l, line, fault),
+        Line::Wrong(fault) => Err(WrongLine { line, fault }),
     }
 }
 
 // Reads the banks of a text, or its first wrong line. Lines done are counted, and not the next one's number, which a text of the greatest length would
-// take past 64 bits.
-pub fn read(text: &[u8]) -> Listed
+// take past 64 bits. The library's `split` is no plainer here: of its pieces a proof knows only the run, and it gives an empty one behind the last newline.
+pub fn read(text: &[u8]) -> Result<Listed, WrongLine>
     ensures { result ≡ listed (parsed text.now) }
 {
-    let mut l = empty(Found::Needs(0));
+    let mut l = empty();
     let mut done: usize = 0;
     let mut at: usize = 0;
     while at < text.len() {
         let rest = &text[at..];
         let n = line_length(rest);
         done += 1;
-        let next = after_line(l, done, line_said(&rest[..n]));
-        l = next;
+        l = after_line(l, done, line_said(&rest[..n]))?;
         at += n;
         if at < text.len() {
             at += 1;
         }
     }
-    l
+    Ok(l)
 }

@@ -2,7 +2,7 @@
 // on standard input; `widths --help` says more. bank_list has what a text says, widths_text the answers; here a list is only read for them, whole.
 #![tactic(auto)]
 
-use bank_list::{Fault, Found};
+use bank_list::Fault;
 use front::Front;
 
 // A byte more than the longest list has, so that a longer one is told without being read whole.
@@ -25,12 +25,13 @@ fn answer(front: &Front, name: &[u8], text: &[u8], out: &mut [u8]) {
         front.wrong_input(name, b"more than 65536 bytes");
         return;
     }
-    let list = bank_list::read(text);
-    let found = list.found;
-    if let Found::Wrong { line, fault } = found {
-        wrong_line(front, name, line, fault);
-        return;
-    }
+    let list = match bank_list::read(text) {
+        Ok(list) => list,
+        Err(wrong) => {
+            wrong_line(front, name, wrong.line, wrong.fault);
+            return;
+        }
+    };
     let n = widths_text::answer(list, out);
     let _ = front.say(&out[0..n]);
 }

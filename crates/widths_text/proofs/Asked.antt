@@ -2,16 +2,15 @@
 -- Assumes nothing.
 use mathlib.Core.Path.{◌≡◌, refl, sym, ap, ap₂, ◌∙◌}
 use mathlib.Core.Bool.{Bool, true, false}
-use mathlib.Core.List.{List, []}
+use mathlib.Core.List.{List}
 use Prim.Native.Nat.{ℕ, min, ◌-◌}
 use native.Mathlib.Omega.{arith}
 use borrow.Author.Tests.{leb-true, leb-false}
 use lib.Dec.{leb}
 use lib.ListN.{length, take}
 use lib.Seq.{take_all}
-use Rattle.bank_list.specs.declared.Fault.{Fault}
 use Rattle.bank_list.specs.declared.Found.{Found}
-use Rattle.bank_list.specs.declared.Found.TheVariants.{Needs, Proposals, Wrong}
+use Rattle.bank_list.specs.declared.Found.TheVariants.{Needs, Proposals}
 use Rattle.bank_list.specs.declared.Listed.{Listed}
 use Rattle.bank_list.specs.Banks.{most_kept}
 use Rattle.widths_text.specs.Text.{needs_text, proposals_text, kept_text, answer_text}
@@ -40,6 +39,3 @@ module _ (l : Listed) where
   pub asked-proposals : {n m : ℕ} → l.found ≡ Proposals n → length l.needs ≡ most_kept → length l.codes ≡ most_kept → m ≡ min n most_kept
       → answer_text l ≡ proposals_text (take (m - 0) l.needs) (take (m - 0) l.codes)
   asked-proposals {n} {m} e ln lc k = by-found e ∙ ap₂ proposals_text (front l.needs n m ln k) (front l.codes n m lc k)
-
-  pub asked-none : {k : ℕ} {f : Fault} → l.found ≡ Wrong k f → answer_text l ≡ []
-  asked-none e = by-found e

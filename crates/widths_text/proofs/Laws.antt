@@ -15,7 +15,7 @@ use Rattle.refusal.specs.declared.Refusal.TheVariants.{ListLength}
 use Rattle.bank_widths.specs.Lists.{lengths_right, judged, found}
 use Rattle.bank_list.specs.Banks.{Parsed, banks, faulty, parsed, most_kept, kept, listed, Paired}
 use Rattle.bank_list.proofs.Laws.{codes_all}
-use Rattle.widths_text.specs.Text.{refused_text, needs_text, proposals_text, parsed_text, answer_text}
+use Rattle.widths_text.specs.Text.{refused_text, needs_text, proposals_text, parsed_text, answer_text, read_text}
 
 -- ---- lists past 32 banks, all of them refused by 21
 
@@ -53,7 +53,7 @@ module _ (text : List ℕ → List ℕ → List ℕ) {one : List ℕ} (past : (n
           let n : length (take m ns) ≡ m = length-take-le m ns (omega arith) in
           past (take m ns) (take m cs) (omega arith) ∙ sym (past ns cs (omega arith))
 
-pub answer-kept : (p : Parsed) → Paired p → answer_text (listed p) ≡ parsed_text p
+pub answer-kept : (p : Parsed) → Paired p → read_text (listed p) ≡ parsed_text p
 unfolding answer_text listed
 answer-kept (banks ns []) e =
     ap needs_text (kept-front ns (min (length ns) most_kept) (omega arith) (omega arith))
@@ -71,5 +71,5 @@ paired text (banks ns (c ∷ cs)) e =
     ⊎_elim (λ w. absurd (let z : ◌≡◌ {A = ℕ} 0 1 = cc in omega arith)) (λ w. w) (codes_all text ns (c ∷ cs) e)
 paired text (faulty k f) e = tt
 
-pub answer-all : (text : List ℕ) → answer_text (listed (parsed text)) ≡ parsed_text (parsed text)
+pub answer-all : (text : List ℕ) → read_text (listed (parsed text)) ≡ parsed_text (parsed text)
 answer-all text = answer-kept (parsed text) (paired text (parsed text) refl)

@@ -17,7 +17,7 @@ use Rattle.rx_bw.specs.Width.{name_of}
 use Rattle.std.specs.Prelude.{Result, Ok, Err}
 use Rattle.bank_widths.specs.Lists.{judged, right_codes, found}
 use Rattle.bank_list.specs.declared.Found.{Found}
-use Rattle.bank_list.specs.declared.Found.TheVariants.{Needs, Proposals, Wrong}
+use Rattle.bank_list.specs.declared.Found.TheVariants.{Needs, Proposals}
 use Rattle.bank_list.specs.declared.Listed.{Listed}
 use Rattle.widths_text.specs.Text.{longest, millionths, width_in, bank_line, line_at, bank_lines, refused_text, found_text, needs_text}
 use Rattle.widths_text.specs.Text.{judged_text, proposals_text, kept_text, answer_text}
@@ -75,4 +75,3 @@ answer-most l = by l.found
     by : (f : Found) → length (kept_text f l.needs l.codes) ≤ longest
     by (Needs n) = needs-most (take n l.needs)
     by (Proposals n) = proposals-most (take n l.needs) (take n l.codes)
-    by (Wrong k f) = omega arith

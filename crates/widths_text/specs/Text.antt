@@ -10,8 +10,9 @@ use Rattle.rx_bw.specs.Width.{divisor, name_of}
 use Rattle.width_rule.specs.Rule.{is_served}
 use Rattle.bank_widths.specs.Lists.{judged, right_codes, found}
 use Rattle.bank_list.specs.declared.Found.{Found}
-use Rattle.bank_list.specs.declared.Found.TheVariants.{Needs, Proposals, Wrong}
+use Rattle.bank_list.specs.declared.Found.TheVariants.{Needs, Proposals}
 use Rattle.bank_list.specs.declared.Listed.{Listed}
+use Rattle.bank_list.specs.declared.WrongLine.{WrongLine}
 use Rattle.bank_list.specs.Banks.{Parsed, banks, faulty}
 
 -- no answer is longer, as proofs/Longest.antt shows
@@ -90,11 +91,15 @@ parsed_text (faulty k f) = []
 abbrev pub kept_text : Found → List ℕ → List ℕ → List ℕ
 kept_text (Needs n) ns cs = needs_text (take n ns)
 kept_text (Proposals n) ns cs = proposals_text (take n ns) (take n cs)
-kept_text (Wrong k f) ns cs = []
 
 -- the answer to what was read of a list
 unfoldable pub answer_text : Listed → List ℕ
 answer_text l = kept_text l.found l.needs l.codes
+
+-- the answer to what a text is read as; a wrong line has none
+abbrev pub read_text : Result Listed WrongLine → List ℕ
+read_text (Ok l) = answer_text l
+read_text (Err w) = []
 
 -- bank k, counted from 1, is one of these needs, and can be served
 pub record ServedAt (ns : List ℕ) (k : ℕ) : Type 0 where

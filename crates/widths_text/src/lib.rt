@@ -117,8 +117,7 @@ fn capped(n: usize) -> usize
     if n < KEPT { n } else { KEPT }
 }
 
-// The answer to a list of banks at the start of `out`: how long it is, 0 where a line of the list is wrong, and where the output has fewer than `LONGEST`
-// bytes and is left alone.
+// The answer to a list of banks at the start of `out`: how long it is, 0 where the output has fewer than `LONGEST` bytes and is left alone.
 pub fn answer(list: Listed, out: &mut [u8]) -> usize
     ensures value { result ≡ told longest (answer_text list) out.old }
     ensures out_after { out.new ≡ laid longest (answer_text list) out.old }
@@ -139,6 +138,5 @@ pub fn answer(list: Listed, out: &mut [u8]) -> usize
             let m = capped(n);
             put_proposals(out, 0, &needs[0..m], &codes[0..m])
         }
-        Found::Wrong { line: _, fault: _ } => 0,
     }
 }

@@ -1,7 +1,6 @@
 -- `is_skipped` meets its contract: a line that is not blank has a first byte.
 -- Assumes nothing.
-use mathlib.Core.Path.{◌≡◌, sym, ◌∙◌}
-use native.Mathlib.Omega.{arith}
+use mathlib.Core.Path.{sym, ◌∙◌}
 use Rattle.bank_list.proofs.Said.{blank-nil, skips-blank, skips-rest}
 use Rattle.bank_list.proofs.is_skipped.Goals as goal
 
