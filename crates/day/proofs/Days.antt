@@ -19,8 +19,8 @@ use Rattle.cmd_lora.specs.declared.rsp.LoraRxStatsRead.{LoraRxStatsRead}
 use Rattle.cmd_lora.specs.declared.rsp.LoraPacketStatusRead.{LoraPacketStatusRead}
 use Rattle.cmd_fsk.specs.declared.rsp.FskRxStatsRead.{FskRxStatsRead}
 use Rattle.cmd_fsk.specs.declared.rsp.FskPacketStatusRead.{FskPacketStatusRead}
-use Rattle.book.specs.declared.Answer.{Answer as Said}
-use Rattle.book.specs.declared.Answer.TheVariants as said
+use Rattle.book.specs.Plain.{Answer as Said}
+use Rattle.std.specs.Prelude.{Ok, Err}
 use Rattle.book.specs.Book.{Permits}
 use Rattle.book.specs.History.{Put, after}
 use Rattle.day.specs.declared.Day.{Day}
@@ -68,7 +68,7 @@ module _ (b : List ℕ) (d x : Day) where
 -- ---- puts
 
 -- a put that was refused, by a number that has a count and by one that has none
-module _ (k : ℕ) (d : Day) (a : Said) (x : Refusal) (e : a ≡ said.Refused x) (n : ℕ) (m : n ≡ number_of x) where
+module _ (k : ℕ) (d : Day) (a : Said) (x : Refusal) (e : a ≡ Err x) (n : ℕ) (m : n ≡ number_of x) where
   pub tally-counted : n < 9 → refused_one n (noted k d) ≡ tallied k a d
   tally-counted h = rw (e, m, lt-ltb (number_of x) 9 (omega (arith, h, m))) refl
 

@@ -46,7 +46,7 @@ fn say_frames(streams: Streams, reel: &[u8], line: &mut [u8]) -> bool {
 fn say_book(streams: Streams, book: &[u8], line: &mut [u8]) -> bool {
     let mut reel = [0u8; book::LONGEST_REEL];
     let answer = book::replay(book, &mut reel);
-    let Answer::Done(n) = answer else {
+    let Ok(n) = answer else {
         return true;
     };
     if reel.len() < n {
@@ -80,7 +80,7 @@ fn say_report(streams: Streams, name: &[u8], cursor: Cursor, book: &[u8], text: 
     if !say_book(streams, book, text) {
         return false;
     }
-    let Answer::Refused(why) = answer else {
+    let Err(why) = answer else {
         return true;
     };
     let m = report::stopped(why.place() as u64, text);
@@ -93,7 +93,7 @@ fn say_report(streams: Streams, name: &[u8], cursor: Cursor, book: &[u8], text: 
 fn used_of(answer: Answer, n: usize) -> usize
     ensures { result ≤ n }
 {
-    let Answer::Done(used) = answer else {
+    let Ok(used) = answer else {
         return n;
     };
     if used <= n { used } else { n }
@@ -151,7 +151,7 @@ fn one(
     book: &mut [u8],
     text: &mut [u8],
 ) -> bool {
-    book::make(book);
+    let _made = book::make(book);
     let r = run(streams, input, s, book);
     if let Some(why) = r.why {
         front::cannot_read(streams, &NAME, name, why);
