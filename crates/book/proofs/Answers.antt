@@ -16,7 +16,7 @@ use Rattle.table.specs.Table.{settings}
 use Rattle.settings.specs.Settings.{lacks, slot_for, slot_of}
 use Rattle.contents.specs.Frames.{flat, held}
 use Rattle.contents.specs.Contents.{holds, image}
-use Rattle.book.specs.declared.Answer.TheVariants.{Done, Refused}
+use Rattle.std.specs.Prelude.{Ok, Err}
 use Rattle.book.specs.Plain.{Turn, ask_on, become, clear_on, declined_of, frame_of, placed, put_on, refuse, remove_on, replay_on, tell, without}
 use Rattle.book.specs.Book.{Edit, Outcome, Read, made, opened_for, ours, room_in}
 use Rattle.book.specs.History.{Ask, Call, Clear, Make, Put, Remove, Replay, after, turn, wants}
@@ -31,9 +31,9 @@ unfolding made
 make-answers b = by (leb 62 (length b)) (leb (length b) 4096)
   where
     no : Outcome
-    no = record { answer = Refused BufferSize; output = []; bytes = b }
+    no = record { answer = Err BufferSize; output = []; bytes = b }
 
-    by : (t u : Bool) → number (cond {A = Outcome} t (cond u (record { answer = Done 0; output = []; bytes = image ours (length b) [] }) no) no).answer
+    by : (t u : Bool) → number (cond {A = Outcome} t (cond u (record { answer = Ok 0; output = []; bytes = image ours (length b) [] }) no) no).answer
         ≡ cond t (cond u 0 11) 11
     by true true = refl
     by true false = refl
@@ -82,7 +82,7 @@ module _ (b : List ℕ) (fs : List (List ℕ)) where
   tell-number : (x o : List ℕ) → number (tell x o fs).answer ≡ cond (leb (length x) (length o)) 0 12
   tell-number x o = by (leb (length x) (length o))
     where
-      by : (t : Bool) → number (cond {A = Turn} t (record { answer = Done (length x); output = x ++ drop (length x) o; frames = fs })
+      by : (t : Bool) → number (cond {A = Turn} t (record { answer = Ok (length x); output = x ++ drop (length x) o; frames = fs })
           (refuse OutputShort o fs)).answer ≡ cond t 0 12
       by true = refl
       by false = refl

@@ -30,7 +30,7 @@ use Rattle.contents.specs.Contents.{Contents, holds, image, longest, refused, ro
 use Rattle.contents.proofs.Judged.{Bytes}
 use Rattle.forms.specs.Forms.{other}
 use Rattle.forms.proofs.Forms.{other-low}
-use Rattle.book.specs.declared.Answer.TheVariants.{Done, Refused}
+use Rattle.std.specs.Prelude.{Ok, Err}
 use Rattle.book.specs.Plain.{Turn, ask_on, become, clear_on, frame_of, placed, put_on, refuse, remove_on, replay_on, tell, without}
 use Rattle.book.specs.Book.{Edit, Outcome, Read, Tells, Use, call_for, layout_in, made, on_contents, opened_for, ours, room_in}
 use Rattle.book.specs.History.{Ask, Clear, Make, Put, Remove, Replay, after, turn}
@@ -45,11 +45,11 @@ use Rattle.book.proofs.Called.{call-turn, edit-leaves, edit-reads, kept, shown_i
 -- ---- a call, and then an ask
 
 -- a call that is done found the book good
-found : (u : Use) (s : List ℕ → ℕ → List (List ℕ) → Turn) (o b : List ℕ) (n : ℕ) → (call_for u s o b).answer ≡ Done n → Finds (opened_for u b)
+found : (u : Use) (s : List ℕ → ℕ → List (List ℕ) → Turn) (o b : List ℕ) (n : ℕ) → (call_for u s o b).answer ≡ Ok n → Finds (opened_for u b)
 unfolding call_for
 found u s o b n e = go (opened_for u b) e
   where
-    go : (c : Contents) → (on_contents (layout_in b) s o b c).answer ≡ Done n → Finds c
+    go : (c : Contents) → (on_contents (layout_in b) s o b c).answer ≡ Ok n → Finds c
     go (refused x) q = absurd (done_refused n x (sym q))
     go (holds fs) q = record { frames = fs; opens = refl }
 
@@ -69,27 +69,27 @@ module _ (b : List ℕ) (fs : List (List ℕ)) (h : opened_for Edit b ≡ holds 
 
 -- a replay of every frame
 pub replay-reel : (b : List ℕ) (fs : List (List ℕ)) → opened_for Read b ≡ holds fs → (o : List ℕ) → length (reel_of fs) ≤ length o
-    → Tells (after (Replay o) b) (Done (length (reel_of fs))) (reel_of fs ++ drop (length (reel_of fs)) o)
+    → Tells (after (Replay o) b) (Ok (length (reel_of fs))) (reel_of fs ++ drop (length (reel_of fs)) o)
 unfolding turn replay_on
 replay-reel b fs h o r = rw (call-turn b fs (Replay o) h, le-leb _ _ r) (refl, refl)
 
 -- an ask where a frame is held, and where none is
 module _ (b : List ℕ) (fs : List (List ℕ)) (h : opened_for Read b ≡ holds fs) (k : ℕ) (a : slot_for k < settings) (o : List ℕ) where
   pub ask-held : held (slot_for k) fs ≡ true → length (frame_of (slot_for k) fs) ≤ length o
-      → Tells (after (Ask k o) b) (Done (length (frame_of (slot_for k) fs))) (frame_of (slot_for k) fs ++ drop (length (frame_of (slot_for k) fs)) o)
+      → Tells (after (Ask k o) b) (Ok (length (frame_of (slot_for k) fs))) (frame_of (slot_for k) fs ++ drop (length (frame_of (slot_for k) fs)) o)
   unfolding turn ask_on
   ask-held w r =
       let e : after (Ask k o) b ≡ shown_in b (tell (frame_of (slot_for k) fs) o fs) = call-turn b fs (Ask k o) h ∙ rw (lt-ltb _ _ a, w) in
       rw (e, le-leb _ _ r) (refl, refl)
 
-  ask-absent : held (slot_for k) fs ≡ false → (after (Ask k o) b).answer ≡ Refused NotHeld
+  ask-absent : held (slot_for k) fs ≡ false → (after (Ask k o) b).answer ≡ Err NotHeld
   unfolding turn ask_on
   ask-absent w = rw (call-turn b fs (Ask k o) h, lt-ltb _ _ a, w)
 
 -- ---- a put, and then an ask
 
 -- an accepted put is of a setting's frame, and places it
-pub put-accepted : (f o : List ℕ) (room : ℕ) (fs : List (List ℕ)) (n : ℕ) → (put_on f o room fs).answer ≡ Done n
+pub put-accepted : (f o : List ℕ) (room : ℕ) (fs : List (List ℕ)) (n : ℕ) → (put_on f o room fs).answer ≡ Ok n
     → (slot_of f < settings) × ((put_on f o room fs).frames ≡ placed f fs)
 unfolding put_on
 put-accepted f o room fs n e = by (ltb (slot_of f) settings) refl (leb (length (flat (placed f fs))) room) e
@@ -97,7 +97,7 @@ put-accepted f o room fs n e = by (ltb (slot_of f) settings) refl (leb (length (
     picked : Bool → Bool → Turn
     picked t u = cond t (cond u (become o (placed f fs)) (refuse NoRoom o fs)) (refuse (lacks (decode f)) o fs)
 
-    by : (t : Bool) → ltb (slot_of f) settings ≡ t → (u : Bool) → (picked t u).answer ≡ Done n → (slot_of f < settings) × ((picked t u).frames ≡ placed f fs)
+    by : (t : Bool) → ltb (slot_of f) settings ≡ t → (u : Bool) → (picked t u).answer ≡ Ok n → (slot_of f < settings) × ((picked t u).frames ≡ placed f fs)
     by true w true q = (ltb-true _ _ w, refl)
     by true w false q = absurd (done_refused n NoRoom (sym q))
     by false w u q = absurd (done_refused n (lacks (decode f)) (sym q))
@@ -161,7 +161,7 @@ module _ (b : List ℕ) (fs : List (List ℕ)) (h : opened_for Edit b ≡ holds 
       )
 
 -- an accepted removal is of a setting's kind, and takes its frame out
-remove-accepted : (k : ℕ) (o : List ℕ) (room : ℕ) (fs : List (List ℕ)) (n : ℕ) → (remove_on k o room fs).answer ≡ Done n
+remove-accepted : (k : ℕ) (o : List ℕ) (room : ℕ) (fs : List (List ℕ)) (n : ℕ) → (remove_on k o room fs).answer ≡ Ok n
     → (slot_for k < settings) × ((remove_on k o room fs).frames ≡ without (slot_for k) fs)
 unfolding remove_on
 remove-accepted k o room fs n e = by (ltb (slot_for k) settings) refl (held (slot_for k) fs) e
@@ -169,13 +169,13 @@ remove-accepted k o room fs n e = by (ltb (slot_for k) settings) refl (held (slo
     picked : Bool → Bool → Turn
     picked t u = cond t (cond u (become o (without (slot_for k) fs)) (refuse NotHeld o fs)) (refuse NotAKind o fs)
 
-    by : (t : Bool) → ltb (slot_for k) settings ≡ t → (u : Bool) → (picked t u).answer ≡ Done n
+    by : (t : Bool) → ltb (slot_for k) settings ≡ t → (u : Bool) → (picked t u).answer ≡ Ok n
         → (slot_for k < settings) × ((picked t u).frames ≡ without (slot_for k) fs)
     by true w true q = (ltb-true _ _ w, refl)
     by true w false q = absurd (done_refused n NotHeld (sym q))
     by false w u q = absurd (done_refused n NotAKind (sym q))
 
-module _ (b f : List ℕ) (n : ℕ) (e : (after (Put f) b).answer ≡ Done n) where
+module _ (b f : List ℕ) (n : ℕ) (e : (after (Put f) b).answer ≡ Ok n) where
   was : Finds (opened_for Edit b)
   was = found Edit (put_on f) [] b n e
 
@@ -189,7 +189,7 @@ module _ (b f : List ℕ) (n : ℕ) (e : (after (Put f) b).answer ≡ Done n) wh
 
   -- WHAT WAS PUT IS WHAT AN ASK GIVES, for the kind that the frame decodes to
   pub put-ask : (k : ℕ) (vs : List ℕ) → decode f ≡ reading k vs → (o : List ℕ) → length f ≤ length o
-      → Tells (after (Ask k o) (after (Put f) b).bytes) (Done (length f)) (f ++ drop (length f) o)
+      → Tells (after (Ask k o) (after (Put f) b).bytes) (Ok (length f)) (f ++ drop (length f) o)
   unfolding slot_of
   put-ask k vs d o r =
       let own : slot_of f ≡ slot_for k = ap slot_in d in
@@ -197,12 +197,12 @@ module _ (b f : List ℕ) (n : ℕ) (e : (after (Put f) b).answer ≡ Done n) wh
       ap (λ (j : ℕ). frame_of j (placed f was.frames)) (sym own) ∙ placed-newest f was.frames in
       let a : slot_for k < settings = omega (arith, accepted.0) in
       let h = found-held (slot_for k) a (placed f was.frames) (ap slot_of newest ∙ own) in
-      subst (λ (g : List ℕ). Tells (after (Ask k o) (after (Put f) b).bytes) (Done (length g)) (g ++ drop (length g) o)) newest
+      subst (λ (g : List ℕ). Tells (after (Ask k o) (after (Put f) b).bytes) (Ok (length g)) (g ++ drop (length g) o)) newest
       (ask-held (after (Put f) b).bytes (placed f was.frames) (put-leaves Read) k a o h (omega (arith, ap length newest)))
 
   -- the other form of its setting is then not held
   pub put-form : (k : ℕ) → slot_for k ≡ other (slot_of f) → (other (slot_of f) ≡ slot_of f → ⊥) → (o : List ℕ)
-      → (after (Ask k o) (after (Put f) b).bytes).answer ≡ Refused NotHeld
+      → (after (Ask k o) (after (Put f) b).bytes).answer ≡ Err NotHeld
   put-form k own n o =
       let K = kept b was.frames was.opens in
       ask-absent (after (Put f) b).bytes (placed f was.frames) (put-leaves Read) k (omega (arith, other-low (slot_of f) accepted.0)) o
@@ -217,7 +217,7 @@ module _ (b f : List ℕ) (n : ℕ) (e : (after (Put f) b).answer ≡ Done n) wh
 
 -- ---- a removal, a clear and a make, and then an ask
 
-module _ (b : List ℕ) (j n : ℕ) (e : (after (Remove j) b).answer ≡ Done n) where
+module _ (b : List ℕ) (j n : ℕ) (e : (after (Remove j) b).answer ≡ Ok n) where
   had : Finds (opened_for Edit b)
   had = found Edit (remove_on j) [] b n e
 
@@ -230,7 +230,7 @@ module _ (b : List ℕ) (j n : ℕ) (e : (after (Remove j) b).answer ≡ Done n)
   remove-leaves u = edit-leaves b had.frames had.opens (Remove j) refl u ∙ ap (λ (gs : List (List ℕ)). holds gs) gone.1
 
   -- WHAT WAS TAKEN OUT GETS 9
-  pub remove-ask : (o : List ℕ) → (after (Ask j o) (after (Remove j) b).bytes).answer ≡ Refused NotHeld
+  pub remove-ask : (o : List ℕ) → (after (Ask j o) (after (Remove j) b).bytes).answer ≡ Err NotHeld
   remove-ask o =
       ask-absent (after (Remove j) b).bytes (without (slot_for j) had.frames) (remove-leaves Read) j gone.0 o
       (without_gone (slot_for j) had.frames (kept b had.frames had.opens).sound)
@@ -244,31 +244,31 @@ module _ (b : List ℕ) (j n : ℕ) (e : (after (Remove j) b).answer ≡ Done n)
 
 -- an empty book has nothing to ask for
 module _ (b : List ℕ) (h : opened_for Read b ≡ holds []) (o : List ℕ) where
-  empty-ask : (k : ℕ) → slot_for k < settings → (after (Ask k o) b).answer ≡ Refused NotHeld
+  empty-ask : (k : ℕ) → slot_for k < settings → (after (Ask k o) b).answer ≡ Err NotHeld
   unfolding held
   empty-ask k a = ask-absent b [] h k a o refl
 
-  empty-replay : Tells (after (Replay o) b) (Done 0) o
+  empty-replay : Tells (after (Replay o) b) (Ok 0) o
   unfolding turn replay_on reel_of
   empty-replay = rw (call-turn b [] (Replay o) h, le-leb 0 (length o) (omega arith)) (refl, refl)
 
 -- A CLEAR AND A MAKE LEAVE NOTHING: every setting gets 9, and a replay has no bytes
 module _ (b : List ℕ) (n : ℕ) where
-  clear-leaves : (after Clear b).answer ≡ Done n → opened_for Read (after Clear b).bytes ≡ holds []
+  clear-leaves : (after Clear b).answer ≡ Ok n → opened_for Read (after Clear b).bytes ≡ holds []
   unfolding turn clear_on
   clear-leaves e = let w = found Edit clear_on [] b n e in edit-leaves b w.frames w.opens Clear refl Read
 
-  make-leaves : (after Make b).answer ≡ Done n → opened_for Read (after Make b).bytes ≡ holds []
+  make-leaves : (after Make b).answer ≡ Ok n → opened_for Read (after Make b).bytes ≡ holds []
   unfolding made
   make-leaves e = by (leb (start ours.slots) (length b)) refl (leb (length b) longest) refl e
     where
       no : Outcome
-      no = record { answer = Refused BufferSize; output = []; bytes = b }
+      no = record { answer = Err BufferSize; output = []; bytes = b }
 
       picked : Bool → Bool → Outcome
-      picked t u = cond t (cond u (record { answer = Done 0; output = []; bytes = image ours (length b) [] }) no) no
+      picked t u = cond t (cond u (record { answer = Ok 0; output = []; bytes = image ours (length b) [] }) no) no
 
-      by : (t : Bool) → leb (start ours.slots) (length b) ≡ t → (u : Bool) → leb (length b) longest ≡ u → (picked t u).answer ≡ Done n
+      by : (t : Bool) → leb (start ours.slots) (length b) ≡ t → (u : Bool) → leb (length b) longest ≡ u → (picked t u).answer ≡ Ok n
           → opened_for Read (picked t u).bytes ≡ holds []
       by true p true q z =
           opened_for-image (length b) (leb-true _ _ p) (leb-true _ _ q) [] (empty-kept ours.slots (room_of ours (length b))) Read
@@ -276,16 +276,16 @@ module _ (b : List ℕ) (n : ℕ) where
       by false p u q z = absurd (done_refused n BufferSize (sym z))
 
   module _ (o : List ℕ) where
-    pub clear-ask : (after Clear b).answer ≡ Done n → (k : ℕ) → slot_for k < settings → (after (Ask k o) (after Clear b).bytes).answer ≡ Refused NotHeld
+    pub clear-ask : (after Clear b).answer ≡ Ok n → (k : ℕ) → slot_for k < settings → (after (Ask k o) (after Clear b).bytes).answer ≡ Err NotHeld
     clear-ask e = empty-ask (after Clear b).bytes (clear-leaves e) o
 
-    pub clear-replay : (after Clear b).answer ≡ Done n → Tells (after (Replay o) (after Clear b).bytes) (Done 0) o
+    pub clear-replay : (after Clear b).answer ≡ Ok n → Tells (after (Replay o) (after Clear b).bytes) (Ok 0) o
     clear-replay e = empty-replay (after Clear b).bytes (clear-leaves e) o
 
-    pub make-ask : (after Make b).answer ≡ Done n → (k : ℕ) → slot_for k < settings → (after (Ask k o) (after Make b).bytes).answer ≡ Refused NotHeld
+    pub make-ask : (after Make b).answer ≡ Ok n → (k : ℕ) → slot_for k < settings → (after (Ask k o) (after Make b).bytes).answer ≡ Err NotHeld
     make-ask e = empty-ask (after Make b).bytes (make-leaves e) o
 
-    pub make-replay : (after Make b).answer ≡ Done n → Tells (after (Replay o) (after Make b).bytes) (Done 0) o
+    pub make-replay : (after Make b).answer ≡ Ok n → Tells (after (Replay o) (after Make b).bytes) (Ok 0) o
     make-replay e = empty-replay (after Make b).bytes (make-leaves e) o
 
 -- ---- the two forms
@@ -293,11 +293,11 @@ module _ (b : List ℕ) (n : ℕ) where
 module _ (b : List ℕ) (fs : List (List ℕ)) (k : ℕ) (a : slot_for k < settings) (n : other (slot_for k) ≡ slot_for k → ⊥)
     (w : held (other (slot_for k)) fs ≡ true) where
   -- THE FORM THAT IS NOT HELD GETS 9, where the other one is
-  pub form-ask : opened_for Read b ≡ holds fs → (o : List ℕ) → (after (Ask k o) b).answer ≡ Refused NotHeld
+  pub form-ask : opened_for Read b ≡ holds fs → (o : List ℕ) → (after (Ask k o) b).answer ≡ Err NotHeld
   form-ask h o =
       ask-absent b fs h k a o (form-nine (slot_for k) fs (opened-forms (layout_in b) b fs (opened_for-opened Read b fs h)) n w)
 
-  pub form-remove : opened_for Edit b ≡ holds fs → (after (Remove k) b).answer ≡ Refused NotHeld
+  pub form-remove : opened_for Edit b ≡ holds fs → (after (Remove k) b).answer ≡ Err NotHeld
   unfolding turn remove_on
   form-remove h =
       rw (call-turn b fs (Remove k) h, lt-ltb _ _ a, form-nine (slot_for k) fs (opened-forms (layout_in b) b fs (opened_for-opened Edit b fs h)) n w)
@@ -312,6 +312,6 @@ module _ (b f : List ℕ) (xs : List (List ℕ)) (g : List ℕ) (ys : List (List
   unfolding turn put_on
   put-instead r = rw (call-turn b (xs ++ (g ∷ ys)) (Put f) h, lt-ltb _ _ a, instead, le-leb _ _ r)
 
-  pub put-over : room_in b < length (flat (xs ++ (f ∷ ys))) → (after (Put f) b).answer ≡ Refused NoRoom
+  pub put-over : room_in b < length (flat (xs ++ (f ∷ ys))) → (after (Put f) b).answer ≡ Err NoRoom
   unfolding turn put_on
   put-over r = rw (call-turn b (xs ++ (g ∷ ys)) (Put f) h, lt-ltb _ _ a, instead, lt-leb _ _ r)

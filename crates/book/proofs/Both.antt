@@ -16,7 +16,7 @@ use Rattle.contents.proofs.Judged.{Bytes}
 use Rattle.contents.proofs.Places.{judge-own}
 use Rattle.forms.specs.Forms.{single}
 use Rattle.forms.proofs.Forms.{forms-single}
-use Rattle.book.specs.declared.Answer.TheVariants.{Refused}
+use Rattle.std.specs.Prelude.{Err}
 use Rattle.book.specs.Book.{Edit, Read, Use, agreed, call_for, layout_in, opened, opened_for, ours, verdict}
 use Rattle.book.specs.History.{Ask, Call, Clear, Make, Put, Remove, Replay, after, on_bytes, wants}
 use Rattle.book.specs.Plain.{Turn}
@@ -40,11 +40,11 @@ is_make (Replay o) = false
 -- a call that is refused before anything is asked
 module _ (b : List ℕ) (x : Refusal) where
   call-refused : (u : Use) → opened_for u b ≡ refused x → (s : List ℕ → ℕ → List (List ℕ) → Turn) (o : List ℕ)
-      → call_for u s o b ≡ record { answer = Refused x; output = o; bytes = b }
+      → call_for u s o b ≡ record { answer = Err x; output = o; bytes = b }
   unfolding call_for
   call-refused u e s o = rw e
 
-  after-refused : (c : Call) → is_make c ≡ false → opened_for (wants c) b ≡ refused x → after c b ≡ record { answer = Refused x; output = lent_to c; bytes = b }
+  after-refused : (c : Call) → is_make c ≡ false → opened_for (wants c) b ≡ refused x → after c b ≡ record { answer = Err x; output = lent_to c; bytes = b }
   after-refused Make n e = absurd (false≢true (sym n))
   after-refused (Put f) n e = call-refused Edit e _ []
   after-refused (Remove k) n e = call-refused Edit e _ []
@@ -53,12 +53,12 @@ module _ (b : List ℕ) (x : Refusal) where
   after-refused (Replay o) n e = call-refused Read e _ o
 
 module _ (b : List ℕ) (c : Call) (n : is_make c ≡ false) where
-  pub ten-first : (x : Refusal) → judge (layout_in b) b ≡ refused x → after c b ≡ record { answer = Refused x; output = lent_to c; bytes = b }
+  pub ten-first : (x : Refusal) → judge (layout_in b) b ≡ refused x → after c b ≡ record { answer = Err x; output = lent_to c; bytes = b }
   unfolding opened
   ten-first x e = after-refused b x c n (opened_for-refuses (wants c) b x (rw e))
 
   pub both-refused : (fs : List (List ℕ)) → judge (layout_in b) b ≡ holds fs → single fs ≡ false
-      → after c b ≡ record { answer = Refused BothForms; output = lent_to c; bytes = b }
+      → after c b ≡ record { answer = Err BothForms; output = lent_to c; bytes = b }
   unfolding opened
   both-refused fs e o = after-refused b BothForms c n (opened_for-refuses (wants c) b BothForms (rw (e, o)))
 
@@ -109,14 +109,14 @@ module _ (b : List ℕ) where
   own u x e n = two-forms x (refuses-opened u b x e) n
 
   -- whatever the call and the bytes: who hears 16 called a book that holds both forms
-  pub sixteen-only : (c : Call) → (after c b).answer ≡ Refused BothForms → (is_make c ≡ false) × Both (layout_in b) b
+  pub sixteen-only : (c : Call) → (after c b).answer ≡ Err BothForms → (is_make c ≡ false) × Both (layout_in b) b
   unfolding l
   sixteen-only c e = (opens c e, subst (Says Tells16) e (after-says Tells16 steps-none b own (λ n. absurd (omega arith)) c) refl)
     where
       Eleven : Refusal → Type 0
       Eleven x = number_of x ≡ 11
 
-      opens : (c : Call) → (after c b).answer ≡ Refused BothForms → is_make c ≡ false
+      opens : (c : Call) → (after c b).answer ≡ Err BothForms → is_make c ≡ false
       opens Make e = absurd (let n : ◌≡◌ {A = ℕ} 16 11 = subst (Says Eleven) e (made-says Eleven ours b refl) in omega arith)
       opens (Put f) e = refl
       opens (Remove k) e = refl
@@ -127,7 +127,7 @@ module _ (b : List ℕ) where
 -- ---- where none is given
 
 -- a book that can be edited gets none
-open-sixteen : (b : List ℕ) (fs : List (List ℕ)) → opened_for Edit b ≡ holds fs → (c : Call) → (after c b).answer ≡ Refused BothForms → ⊥
+open-sixteen : (b : List ℕ) (fs : List (List ℕ)) → opened_for Edit b ≡ holds fs → (c : Call) → (after c b).answer ≡ Err BothForms → ⊥
 open-sixteen b fs h c e =
     let two = (sixteen-only b c e).1 in
     let opens = edit-opened b fs h in
@@ -138,10 +138,10 @@ open-sixteen b fs h c e =
 
 -- NO CALL OF OURS EVER LEADS TO A 16: after a make and whatever calls, no call gets it
 pub never-sixteen : (b : List ℕ) → start ours.slots ≤ length b → length b ≤ longest → (cs : List Call) (c : Call)
-    → (after c (on_bytes after (Make ∷ cs) b).bytes).answer ≡ Refused BothForms → ⊥
+    → (after c (on_bytes after (Make ∷ cs) b).bytes).answer ≡ Err BothForms → ⊥
 never-sixteen b low high cs c e = open-sixteen (on_bytes after (Make ∷ cs) b).bytes _ (history-opens b low high cs Edit) c e
 
 -- nor does one after whatever calls on a stored book that can be edited: no call brings a second form into it
 pub stored-sixteen : (b : List ℕ) (fs : List (List ℕ)) → opened_for Edit b ≡ holds fs → Bytes b → (cs : List Call) (c : Call)
-    → (after c (on_bytes after cs b).bytes).answer ≡ Refused BothForms → ⊥
+    → (after c (on_bytes after cs b).bytes).answer ≡ Err BothForms → ⊥
 stored-sixteen b fs h B cs c e = open-sixteen (on_bytes after cs b).bytes _ (stored-opens b fs h B cs Edit) c e

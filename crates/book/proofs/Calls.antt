@@ -10,21 +10,24 @@ use lib.Dec.{eqb}
 use lib.ListN.{length}
 use Rattle.refusal.specs.declared.Refusal.{Refusal}
 use Rattle.refusal.specs.declared.Refusal.TheVariants.{BothForms, BufferSize}
-use Rattle.contents.specs.declared.Verdict.TheVariants as checked
-use Rattle.book.specs.declared.Answer.{Answer}
-use Rattle.book.specs.declared.Answer.TheVariants.{Done, Refused}
+use Rattle.std.specs.Prelude.{Err, IsErrAnd, Ok, Result}
 use Rattle.contents.specs.Frames.{held}
 use Rattle.contents.specs.Contents.{Contents, Layout, holds, image, judge, longest, offset_at, present_for, refused, room_of, start, verdict_of}
 use Rattle.contents.proofs.Judged.{Bytes, Reads, apart, judge-image, judge-reads}
 use Rattle.contents.proofs.Offsets.{offset-among, present-tells}
 use Rattle.forms.specs.Forms.{in_both, single}
 use Rattle.forms.proofs.Forms.{OneForm, both-agree, single-forms}
-use Rattle.book.specs.Plain.{Turn, become, clear_on}
+use Rattle.book.specs.Plain.{Turn, become, clear_on, Answer}
 use Rattle.book.specs.Book.{Outcome, Permits, Tells, agreed, call, made, opened, verdict}
 
 -- an answer is not both
-pub done_refused : (n : ℕ) (x : Refusal) → Done n ≡ Refused x → ⊥
+pub done_refused : (n : ℕ) (x : Refusal) → Ok n ≡ Err x → ⊥
 done_refused n x q = apart (cc)
+
+-- what a `?` hands on is the refusal that it met
+pub handed : {T : Type 0} (r : Result T Refusal) (x : Refusal) → IsErrAnd r (λ y. y ≡ x) → r ≡ Err x
+handed (Err y) x h = ap (λ (z : Refusal). Err z) h
+handed (Ok n) x h = absurd h
 
 -- ---- an outcome
 
@@ -57,11 +60,11 @@ pub record Finds (c : Contents) : Type 0 where
   pub opens : c ≡ holds frames
 
 -- a verdict that is done has found some, and its number is 0
-pub done-finds : (c : Contents) (n : ℕ) → Done n ≡ verdict c → Finds c
+pub done-finds : (c : Contents) (n : ℕ) → Ok n ≡ verdict c → Finds c
 done-finds (refused x) n e = absurd (done_refused n x e)
 done-finds (holds fs) n e = record { frames = fs; opens = refl }
 
-pub done-nought : (c : Contents) (n : ℕ) → Done n ≡ verdict c → Done 0 ≡ verdict c
+pub done-nought : (c : Contents) (n : ℕ) → Ok n ≡ verdict c → Ok 0 ≡ verdict c
 done-nought c n e = sym (ap verdict (done-finds c n e).opens)
 
 pub record Holds (l : Layout) (b : List ℕ) : Type 0 where
@@ -87,18 +90,18 @@ unfolding opened
 opened-forms l b fs h = single-forms fs (agreed-holds (judge l b) fs h).1
 
 -- a book that opens reads as frames
-pub opened-holds : (l : Layout) (b : List ℕ) (n : ℕ) → Done n ≡ verdict (opened l b) → Holds l b
+pub opened-holds : (l : Layout) (b : List ℕ) (n : ℕ) → Ok n ≡ verdict (opened l b) → Holds l b
 opened-holds l b n h =
     let f = done-finds (opened l b) n h in
     record { frames = f.frames; reads = opened-judge l b f.frames f.opens; opens = f.opens }
 
 -- what the check of a buffer says is what a call finds
-pub ready_refused : (l : Layout) (b : List ℕ) (x : Refusal) → checked.Refused x ≡ verdict_of (judge l b) → Refused x ≡ verdict (opened l b)
+pub ready_refused : (l : Layout) (b : List ℕ) (x : Refusal) → Err x ≡ verdict_of (judge l b) → Err x ≡ verdict (opened l b)
 unfolding opened
 ready_refused l b x e = go (judge l b) e
   where
-    go : (r : Contents) → checked.Refused x ≡ verdict_of r → Refused x ≡ verdict (agreed r)
-    go (refused y) z = let w : x ≡ y = cc in ap (λ (y : Refusal). Refused y) w
+    go : (r : Contents) → Err x ≡ verdict_of r → Err x ≡ verdict (agreed r)
+    go (refused y) z = let w : x ≡ y = cc in ap (λ (y : Refusal). Err y) w
     go (holds fs) z = absurd (apart (cc))
 
 -- the offsets of a header tell which slots are held
@@ -106,23 +109,23 @@ pub present-held : (l : Layout) (b : List ℕ) (fs : List (List ℕ)) → judge 
 present-held l b fs h s a = ap (λ (o : ℕ). not (eqb o 0)) (sym (offset-among l.slots b s a)) ∙ present-tells l b fs h s
 
 -- and so whether a setting is held in both its forms
-module _ (l : Layout) (b : List ℕ) (ok : checked.WellFormed ≡ verdict_of (judge l b)) where
-  sorted : (t : Bool) → in_both (present_for l.slots b) ≡ t → verdict (opened l b) ≡ cond t (Refused BothForms) (Done 0)
+module _ (l : Layout) (b : List ℕ) (ok : Ok tt ≡ verdict_of (judge l b)) where
+  sorted : (t : Bool) → in_both (present_for l.slots b) ≡ t → verdict (opened l b) ≡ cond t (Err BothForms) (Ok 0)
   unfolding opened single
   sorted t e = go (judge l b) refl ok
     where
-      go : (r : Contents) → judge l b ≡ r → checked.WellFormed ≡ verdict_of r → verdict (agreed (judge l b)) ≡ cond t (Refused BothForms) (Done 0)
+      go : (r : Contents) → judge l b ≡ r → Ok tt ≡ verdict_of r → verdict (agreed (judge l b)) ≡ cond t (Err BothForms) (Ok 0)
       go (refused y) w z = absurd (apart (cc))
       go (holds fs) w z = rw (w, ← both-agree (present_for l.slots b) (λ s. held s fs) (λ s a. present-tells l b fs w s), e) (by t)
         where
-          by : (t : Bool) → verdict (cond (not t) (holds fs) (refused BothForms)) ≡ cond t (Refused BothForms) (Done 0)
+          by : (t : Bool) → verdict (cond (not t) (holds fs) (refused BothForms)) ≡ cond t (Err BothForms) (Ok 0)
           by true = refl
           by false = refl
 
-  pub ready-both : in_both (present_for l.slots b) ≡ true → Refused BothForms ≡ verdict (opened l b)
+  pub ready-both : in_both (present_for l.slots b) ≡ true → Err BothForms ≡ verdict (opened l b)
   ready-both e = sym (sorted true e)
 
-  pub ready-one : in_both (present_for l.slots b) ≡ false → Done 0 ≡ verdict (opened l b)
+  pub ready-one : in_both (present_for l.slots b) ≡ false → Ok 0 ≡ verdict (opened l b)
   ready-one e = sym (sorted false e)
 
 -- what opens is the image of its frames
@@ -145,22 +148,22 @@ accept l s o b h t y e q =
 -- ---- the empty book
 
 module _ (l : Layout) (b : List ℕ) where
-  pub make-short : length b < start l.slots → (Refused BufferSize ≡ (made l b).answer) × (b ≡ (made l b).bytes)
+  pub make-short : length b < start l.slots → (Err BufferSize ≡ (made l b).answer) × (b ≡ (made l b).bytes)
   unfolding made
   make-short a = (rw (lt-leb _ _ a), rw (lt-leb _ _ a))
 
-  pub make-long : start l.slots ≤ length b → longest < length b → (Refused BufferSize ≡ (made l b).answer) × (b ≡ (made l b).bytes)
+  pub make-long : start l.slots ≤ length b → longest < length b → (Err BufferSize ≡ (made l b).answer) × (b ≡ (made l b).bytes)
   unfolding made
   make-long h a = (rw (le-leb _ _ h, lt-leb _ _ a), rw (le-leb _ _ h, lt-leb _ _ a))
 
   pub make-fits : (x : List ℕ) → start l.slots ≤ length b → length b ≤ longest → x ≡ image l (length b) []
-      → (Done 0 ≡ (made l b).answer) × (x ≡ (made l b).bytes)
+      → (Ok 0 ≡ (made l b).answer) × (x ≡ (made l b).bytes)
   unfolding made
   make-fits x h a e = (rw (le-leb _ _ h, le-leb _ _ a), rw (le-leb _ _ h, le-leb _ _ a) e)
 
 pub holds-reads : (l : Layout) (b : List ℕ) (h : Holds l b) → Reads l b h.frames
 holds-reads l b h = judge-reads l b h.frames h.reads
 
-pub clear-done : (l : Layout) (b y : List ℕ) → Holds l b → y ≡ image l (length b) [] → Gives (call l clear_on [] b) (Done 0) [] y
+pub clear-done : (l : Layout) (b y : List ℕ) → Holds l b → y ≡ image l (length b) [] → Gives (call l clear_on [] b) (Ok 0) [] y
 unfolding clear_on
 clear-done l b y h e = accept l clear_on [] b h (become [] []) y refl e

@@ -14,15 +14,14 @@ use Rattle.table.specs.Number.{narrow_of, narrows_of}
 use Rattle.table.specs.Table.{kinds}
 use Rattle.refusal.specs.Numbers.{number_of}
 use Rattle.decoder.specs.Decoding.{answered, decode, judged, known, lacking, sought, stray}
-use Rattle.book.specs.declared.Answer.{Answer}
-use Rattle.book.specs.declared.Answer.TheVariants.{Done, Refused}
+use Rattle.std.specs.Prelude.{Ok, Err}
 use Rattle.reel.specs.Reel.{reel_of}
 use Rattle.settings.specs.Settings.{lengths, size_of, slot_for, slot_of}
 use Rattle.contents.specs.Frames.{flat, held, place}
 use Rattle.contents.specs.Contents.{all_zero, frames_from, header, image, judge, length_at, length_by, offset_at, present_from}
 use Rattle.contents.specs.Contents.{room_of, slot_from, word_at, words}
 use Rattle.forms.specs.Forms.{both_in, in_both, other, other_in, single}
-use Rattle.book.specs.Plain.{ask_on, clear_on, frame_of, placed, put_on, remove_on, replay_on, seat, swap_in, without}
+use Rattle.book.specs.Plain.{ask_on, clear_on, frame_of, placed, put_on, remove_on, replay_on, seat, swap_in, without, Answer}
 use Rattle.book.specs.Book.{Outcome, call_for, layout_in, made, opened, opened_for, ours}
 use Rattle.book.specs.History.{Ask, Call, Clear, Make, Put, Remove, Replay, after, on_list, turn}
 
@@ -36,8 +35,8 @@ data Told : Type 0 where
   refusal : ℕ → Told
 
 abbrev told : Answer → Told
-told (Done n) = done n
-told (Refused x) = refusal (number_of x)
+told (Ok n) = done n
+told (Err x) = refusal (number_of x)
 
 -- a buffer of n bytes, made, with one frame put
 abbrev run : ℕ → Outcome

@@ -16,7 +16,7 @@ use Rattle.table.specs.Laid.{find}
 use Rattle.table.specs.Number.{narrow_of, narrows_of}
 use Rattle.table.specs.Table.{settings}
 use Rattle.refusal.specs.declared.Refusal.TheVariants.{NoRoom}
-use Rattle.book.specs.declared.Answer.TheVariants.{Refused}
+use Rattle.std.specs.Prelude.{Err}
 use Rattle.decoder.specs.Decoding.{answered, decode, judged, known, lacking, sought, stray}
 use Rattle.settings.specs.Settings.{slot_for, slot_of}
 use Rattle.contents.specs.Frames.{flat, held}
@@ -123,7 +123,7 @@ all_fit b e =
     (puts-list (room_of ours (length b)) (front ++ (last ∷ [])) sound one_form (omega (arith, bytes.1)))
 
 pub one-short : (b : List ℕ) → length b + 1 ≡ full_book
-    → (on_bytes after (Make ∷ (puts front ++ (Put last ∷ []))) b).heard ≡ done ∷ (dones front ++ (record { answer = Refused NoRoom; output = [] } ∷ []))
+    → (on_bytes after (Make ∷ (puts front ++ (Put last ∷ []))) b).heard ≡ done ∷ (dones front ++ (record { answer = Err NoRoom; output = [] } ∷ []))
 unfolding on_list turn
 one-short b e =
     ap (λ (r : BytesRun). r.heard) (history-ours b (omega arith) (omega arith) (puts front ++ (Put last ∷ [])))

@@ -10,7 +10,7 @@ use Rattle.refusal.specs.declared.Refusal.{Refusal}
 use Rattle.refusal.specs.declared.Refusal.TheVariants.{BufferSize, NoRoom, NotAKind, NotHeld, OutputShort}
 use Rattle.decoder.specs.Decoding.{decode}
 use Rattle.reel.specs.Reel.{reel_of}
-use Rattle.book.specs.declared.Answer.TheVariants.{Done, Refused}
+use Rattle.std.specs.Prelude.{Ok, Err}
 use Rattle.table.specs.Table.{settings}
 use Rattle.settings.specs.Settings.{lacks, slot_for, slot_of}
 use Rattle.contents.specs.Frames.{flat, held}
@@ -35,7 +35,7 @@ lent_to (Replay o) = o
 
 -- a turn that is refused keeps output and list
 abbrev pub Keeps : Turn → List ℕ → List (List ℕ) → Type 0
-Keeps t o fs = (x : Refusal) → t.answer ≡ Refused x → (t.output ≡ o) × (t.frames ≡ fs)
+Keeps t o fs = (x : Refusal) → t.answer ≡ Err x → (t.output ≡ o) × (t.frames ≡ fs)
 
 become-keeps : (o o' : List ℕ) (fs gs : List (List ℕ)) → Keeps (become o fs) o' gs
 become-keeps o o' fs gs x q = absurd (done_refused 0 x q)
@@ -46,7 +46,7 @@ refuse-keeps y o fs x q = (refl, refl)
 tell-keeps : (m o : List ℕ) (fs : List (List ℕ)) → Keeps (tell m o fs) o fs
 tell-keeps m o fs = go (leb (length m) (length o))
   where
-    go : (t : Bool) → Keeps (cond {A = Turn} t (record { answer = Done (length m); output = m ++ drop (length m) o; frames = fs }) (refuse OutputShort o fs))
+    go : (t : Bool) → Keeps (cond {A = Turn} t (record { answer = Ok (length m); output = m ++ drop (length m) o; frames = fs }) (refuse OutputShort o fs))
         o fs
     go true x q = absurd (done_refused (length m) x q)
     go false x q = (refl, refl)
@@ -89,37 +89,37 @@ module _ (o : List ℕ) (room : ℕ) (fs : List (List ℕ)) where
 
 -- whatever the step on the list, if its refused turns keep output and list
 pub call-keeps : (u : Use) (s : List ℕ → ℕ → List (List ℕ) → Turn) (o b : List ℕ) → Bytes b
-    → ((room : ℕ) (fs : List (List ℕ)) (x : Refusal) → (s o room fs).answer ≡ Refused x → ((s o room fs).output ≡ o) × ((s o room fs).frames ≡ fs))
-    → (x : Refusal) → (call_for u s o b).answer ≡ Refused x → ((call_for u s o b).output ≡ o) × ((call_for u s o b).bytes ≡ b)
+    → ((room : ℕ) (fs : List (List ℕ)) (x : Refusal) → (s o room fs).answer ≡ Err x → ((s o room fs).output ≡ o) × ((s o room fs).frames ≡ fs))
+    → (x : Refusal) → (call_for u s o b).answer ≡ Err x → ((call_for u s o b).output ≡ o) × ((call_for u s o b).bytes ≡ b)
 unfolding call_for
 call-keeps u s o b B keeps x e = go (opened_for u b) refl e
   where
     l : Layout
     l = layout_in b
 
-    go : (c : Contents) → opened_for u b ≡ c → (on_contents l s o b c).answer ≡ Refused x → ((on_contents l s o b c).output ≡ o) × ((on_contents l s o b c).bytes ≡ b)
+    go : (c : Contents) → opened_for u b ≡ c → (on_contents l s o b c).answer ≡ Err x → ((on_contents l s o b c).output ≡ o) × ((on_contents l s o b c).bytes ≡ b)
     go (refused y) w q = (refl, refl)
     go (holds fs) w q =
         let k = keeps (room_of l (length b)) fs x q in
         (k.0, ap (λ (u : List (List ℕ)). image l (length b) u) k.1 ∙ sym (opened-bytes l b fs B (opened_for-opened u b fs w)))
 
-made-keeps : (l : Layout) (b : List ℕ) (x : Refusal) → (made l b).answer ≡ Refused x → ((made l b).output ≡ []) × ((made l b).bytes ≡ b)
+made-keeps : (l : Layout) (b : List ℕ) (x : Refusal) → (made l b).answer ≡ Err x → ((made l b).output ≡ []) × ((made l b).bytes ≡ b)
 unfolding made
 made-keeps l b x e = go (leb (start l.slots) (length b)) (leb (length b) longest) e
   where
     picked : Bool → Bool → Outcome
     picked s t =
         cond s
-        (cond t (record { answer = Done 0; output = []; bytes = image l (length b) [] }) (record { answer = Refused BufferSize; output = []; bytes = b }))
-        (record { answer = Refused BufferSize; output = []; bytes = b })
+        (cond t (record { answer = Ok 0; output = []; bytes = image l (length b) [] }) (record { answer = Err BufferSize; output = []; bytes = b }))
+        (record { answer = Err BufferSize; output = []; bytes = b })
 
-    go : (s t : Bool) → (picked s t).answer ≡ Refused x → ((picked s t).output ≡ []) × ((picked s t).bytes ≡ b)
+    go : (s t : Bool) → (picked s t).answer ≡ Err x → ((picked s t).output ≡ []) × ((picked s t).bytes ≡ b)
     go true true q = absurd (done_refused 0 x q)
     go true false q = (refl, refl)
     go false c q = (refl, refl)
 
 -- WHAT IS REFUSED ALTERS NOTHING: whatever the bytes are, a call that is refused leaves the book and the output
-pub refused-keeps : (c : Call) (b : List ℕ) → Bytes b → (x : Refusal) → (after c b).answer ≡ Refused x → ((after c b).output ≡ lent_to c) × ((after c b).bytes ≡ b)
+pub refused-keeps : (c : Call) (b : List ℕ) → Bytes b → (x : Refusal) → (after c b).answer ≡ Err x → ((after c b).output ≡ lent_to c) × ((after c b).bytes ≡ b)
 refused-keeps Make b B = made-keeps ours b
 refused-keeps (Put f) b B = call-keeps Edit (put_on f) [] b B (λ room fs. put_keeps [] room fs f)
 refused-keeps (Remove k) b B = call-keeps Edit (remove_on k) [] b B (λ room fs. remove-keeps [] room fs k)

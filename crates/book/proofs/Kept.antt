@@ -13,7 +13,7 @@ use lib.ListN.{drop, get_or, length, length-append}
 use Rattle.refusal.specs.declared.Refusal.TheVariants.{NoRoom, NotAKind, NotHeld, OutputShort}
 use Rattle.decoder.specs.Decoding.{decode}
 use Rattle.reel.specs.Reel.{reel_of}
-use Rattle.book.specs.declared.Answer.TheVariants.{Done}
+use Rattle.std.specs.Prelude.{Ok}
 use Rattle.table.specs.Table.{settings}
 use Rattle.settings.specs.Settings.{lacks, slot_for, slot_of}
 use Rattle.contents.specs.Frames.{flat, held}
@@ -86,7 +86,7 @@ within-without m k (g ∷ fs) w = go (within-without m k fs w.1) (eqb (slot_of g
 pub tell-frames : (x o : List ℕ) (fs : List (List ℕ)) → (tell x o fs).frames ≡ fs
 tell-frames x o fs = go (leb (length x) (length o))
   where
-    go : (t : Bool) → (cond {A = Turn} t (record { answer = Done (length x); output = x ++ drop (length x) o; frames = fs })
+    go : (t : Bool) → (cond {A = Turn} t (record { answer = Ok (length x); output = x ++ drop (length x) o; frames = fs })
         (refuse OutputShort o fs)).frames ≡ fs
     go true = refl
     go false = refl

@@ -15,9 +15,8 @@ use Rattle.contents.specs.Contents.{Layout, image, longest, offset_at, offset_fo
 use Rattle.contents.proofs.Shape.{count_most, place-ge, place_in, place_none, present-count}
 use Rattle.contents.proofs.Judged.{Bytes, Reads, Tiled, frames_from-tiled, judge-image, offsets}
 use Rattle.contents.proofs.Offsets.{present-tells}
-use Rattle.book.specs.Plain.{Turn}
+use Rattle.book.specs.Plain.{Turn, Answer}
 use Rattle.book.specs.Book.{call}
-use Rattle.book.specs.declared.Answer.{Answer}
 use Rattle.book.specs.Edits.{Low}
 use Rattle.book.proofs.Calls.{Gives, Holds, accept, holds-reads, present-held}
 

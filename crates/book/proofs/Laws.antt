@@ -39,7 +39,7 @@ use Rattle.forms.specs.Forms.{most_bytes, other}
 use Rattle.forms.proofs.Forms.{OneForm}
 use Rattle.forms.proofs.Most.{most_bytes_lem}
 use Rattle.contents.proofs.Judged.{Bytes, judge-image}
-use Rattle.book.specs.Plain.{Turn, ask_on, become, frame_of, if_held, placed, put_on, refuse, remove_on, replay_on, swap_in, tell, without}
+use Rattle.book.specs.Plain.{Turn, ask_on, become, frame_of, if_held, placed, put_on, refuse, remove_on, replay_on, swap_in, tell, without, Answer}
 use Rattle.contents.proofs.Lists.{held_after, held-here, sound-middle}
 use Rattle.book.proofs.Placed.{by_place, held_cons, placed-forms, placed-over, placed-sound, placed-swap}
 use Rattle.book.proofs.Swapping.{swap-room}
@@ -53,8 +53,7 @@ use Rattle.codec.proofs.Places.{decode-own}
 use Rattle.reel.specs.declared.Step.TheVariants.{End}
 use Rattle.reel.specs.Reel.{reel_of, walk}
 use Rattle.reel.proofs.Walks.{walk-whole}
-use Rattle.book.specs.declared.Answer.{Answer}
-use Rattle.book.specs.declared.Answer.TheVariants.{Done, Refused}
+use Rattle.std.specs.Prelude.{Ok, Err}
 use Rattle.book.proofs.Calls.{done_refused}
 use Rattle.book.proofs.Telling.{reel-length}
 
@@ -209,8 +208,8 @@ without-order s (g ∷ fs) = go (without-order s fs) (eqb (slot_of g) s)
 
 -- an answer's number: 0 where the call is done
 abbrev pub number : Answer → ℕ
-number (Done n) = 0
-number (Refused x) = number_of x
+number (Ok n) = 0
+number (Err x) = number_of x
 
 module _ (f o : List ℕ) (room : ℕ) (fs : List (List ℕ)) (a : slot_of f < settings) where
   pub setting-put : put_on f o room fs ≡ cond (leb (length (flat (placed f fs))) room) (become o (placed f fs)) (refuse NoRoom o fs)
@@ -218,7 +217,7 @@ module _ (f o : List ℕ) (room : ℕ) (fs : List (List ℕ)) (a : slot_of f < s
   setting-put = rw (lt-ltb (slot_of f) settings a)
 
   -- the list with the frame does not fit, and 8 is the answer; or it fits, and the put is done
-  pub setting-full : (room < length (flat (placed f fs)) → put_on f o room fs ≡ refuse NoRoom o fs) × ((put_on f o room fs).answer ≡ Refused NoRoom
+  pub setting-full : (room < length (flat (placed f fs)) → put_on f o room fs ≡ refuse NoRoom o fs) × ((put_on f o room fs).answer ≡ Err NoRoom
       → room < length (flat (placed f fs)))
   setting-full = (
     (λ h. setting-put ∙ rw (lt-leb _ _ h)),
@@ -226,7 +225,7 @@ module _ (f o : List ℕ) (room : ℕ) (fs : List (List ℕ)) (a : slot_of f < s
         (sym (ap (λ (t : Turn). t.answer) setting-put) ∙ e),
   )
     where
-      go : (t : Bool) → leb (length (flat (placed f fs))) room ≡ t → (cond {A = Turn} t (become o (placed f fs)) (refuse NoRoom o fs)).answer ≡ Refused NoRoom
+      go : (t : Bool) → leb (length (flat (placed f fs))) room ≡ t → (cond {A = Turn} t (become o (placed f fs)) (refuse NoRoom o fs)).answer ≡ Err NoRoom
           → room < length (flat (placed f fs))
       go true p q = absurd (done_refused 0 NoRoom q)
       go false p q = leb-false _ _ p
@@ -255,18 +254,18 @@ module _ (f o : List ℕ) (room : ℕ) (fs : List (List ℕ)) (a : slot_of f < s
       put_on-fits f o room fs a (placed f fs) refl (omega (arith, most_bytes_lem (placed f fs) (placed-sound f fs a S) (placed-forms f fs S F)))
 
 -- 8 is given to a setting's frame alone
-pub put-eight : (f o : List ℕ) (room : ℕ) (fs : List (List ℕ)) → (put_on f o room fs).answer ≡ Refused NoRoom
+pub put-eight : (f o : List ℕ) (room : ℕ) (fs : List (List ℕ)) → (put_on f o room fs).answer ≡ Err NoRoom
     → (slot_of f < settings) × (room < length (flat (placed f fs)))
 unfolding put_on
 put-eight f o room fs e = go (ltb (slot_of f) settings) refl e
   where
-    never : (x : Reading) → decode f ≡ x → Refused (lacks x) ≡ Refused NoRoom → ⊥
+    never : (x : Reading) → decode f ≡ x → ◌≡◌ {A = Answer} (Err (lacks x)) (Err NoRoom) → ⊥
     never (reading k vs) p q = let w : ◌≡◌ {A = ℕ} 13 8 = ap number q in omega arith
     never (refuses x) p q = let w : number_of x ≡ 8 = ap number q in omega (arith, decode-own f x p)
 
     go : (t : Bool) → ltb (slot_of f) settings ≡ t
         → (cond {A = Turn} t (cond (leb (length (flat (placed f fs))) room) (become o (placed f fs)) (refuse NoRoom o fs))
-        (refuse (lacks (decode f)) o fs)).answer ≡ Refused NoRoom
+        (refuse (lacks (decode f)) o fs)).answer ≡ Err NoRoom
         → (slot_of f < settings) × (room < length (flat (placed f fs)))
     go true p q = let a : slot_of f < settings = ltb-true _ _ p in (a, (setting-full f o room fs a).1 e)
     go false p q = absurd (never (decode f) refl q)
@@ -285,21 +284,21 @@ module _ (s : ℕ) (t : Turn) (o : List ℕ) (fs : List (List ℕ)) (a : s < set
   asked = rw (lt-ltb s settings a)
 
   -- 9 exactly where the slot is not held
-  nine : (t.answer ≡ Refused NotHeld → ⊥)
-      → (held s fs ≡ false → if_held s t o fs ≡ refuse NotHeld o fs) × ((if_held s t o fs).answer ≡ Refused NotHeld → held s fs ≡ false)
+  nine : (t.answer ≡ Err NotHeld → ⊥)
+      → (held s fs ≡ false → if_held s t o fs ≡ refuse NotHeld o fs) × ((if_held s t o fs).answer ≡ Err NotHeld → held s fs ≡ false)
   nine n = ((λ h. asked ∙ rw h), λ e. go (held s fs) refl (sym (ap (λ (u : Turn). u.answer) asked) ∙ e))
     where
-      go : (u : Bool) → held s fs ≡ u → (cond {A = Turn} u t (refuse NotHeld o fs)).answer ≡ Refused NotHeld → u ≡ false
+      go : (u : Bool) → held s fs ≡ u → (cond {A = Turn} u t (refuse NotHeld o fs)).answer ≡ Err NotHeld → u ≡ false
       go true h e = absurd (n e)
       go false h e = refl
 
 module _ (k : ℕ) (o : List ℕ) (room : ℕ) (fs : List (List ℕ)) (a : slot_for k < settings) where
-  pub remove-nine : (held (slot_for k) fs ≡ false → remove_on k o room fs ≡ refuse NotHeld o fs) × ((remove_on k o room fs).answer ≡ Refused NotHeld
+  pub remove-nine : (held (slot_for k) fs ≡ false → remove_on k o room fs ≡ refuse NotHeld o fs) × ((remove_on k o room fs).answer ≡ Err NotHeld
       → held (slot_for k) fs ≡ false)
   unfolding remove_on
   remove-nine = nine (slot_for k) (become o (without (slot_for k) fs)) o fs a (λ e. done_refused 0 NotHeld e)
 
-  pub ask-nine : (held (slot_for k) fs ≡ false → ask_on k o room fs ≡ refuse NotHeld o fs) × ((ask_on k o room fs).answer ≡ Refused NotHeld
+  pub ask-nine : (held (slot_for k) fs ≡ false → ask_on k o room fs ≡ refuse NotHeld o fs) × ((ask_on k o room fs).answer ≡ Err NotHeld
       → held (slot_for k) fs ≡ false)
   unfolding ask_on
   ask-nine = nine (slot_for k) (tell (frame_of (slot_for k) fs) o fs) o fs a (told (leb (length (frame_of (slot_for k) fs)) (length o)))
@@ -307,8 +306,8 @@ module _ (k : ℕ) (o : List ℕ) (room : ℕ) (fs : List (List ℕ)) (a : slot_
       x : List ℕ
       x = frame_of (slot_for k) fs
 
-      told : (t : Bool) → (cond {A = Turn} t (record { answer = Done (length x); output = x ++ drop (length x) o; frames = fs })
-          (refuse OutputShort o fs)).answer ≡ Refused NotHeld → ⊥
+      told : (t : Bool) → (cond {A = Turn} t (record { answer = Ok (length x); output = x ++ drop (length x) o; frames = fs })
+          (refuse OutputShort o fs)).answer ≡ Err NotHeld → ⊥
       told true e = done_refused (length x) NotHeld e
       told false e = let n : ◌≡◌ {A = ℕ} 12 9 = ap number e in omega arith
 
@@ -327,13 +326,13 @@ record Told (x : List ℕ) (n : ℕ) (out : List ℕ) : Type 0 where
   long : n ≡ length x
   written : take n out ≡ x
 
-tell-done : (x o : List ℕ) (fs : List (List ℕ)) (n : ℕ) → (tell x o fs).answer ≡ Done n → Told x n (tell x o fs).output
+tell-done : (x o : List ℕ) (fs : List (List ℕ)) (n : ℕ) → (tell x o fs).answer ≡ Ok n → Told x n (tell x o fs).output
 tell-done x o fs n e = go (leb (length x) (length o)) e
   where
     picked : Bool → Turn
-    picked t = cond t (record { answer = Done (length x); output = x ++ drop (length x) o; frames = fs }) (refuse OutputShort o fs)
+    picked t = cond t (record { answer = Ok (length x); output = x ++ drop (length x) o; frames = fs }) (refuse OutputShort o fs)
 
-    go : (t : Bool) → (picked t).answer ≡ Done n → Told x n (picked t).output
+    go : (t : Bool) → (picked t).answer ≡ Ok n → Told x n (picked t).output
     go true q = let l : n ≡ length x = cc in record { long = l; written = take_at x (drop (length x) o) n (sym l) }
     go false q = absurd (done_refused n OutputShort (sym q))
 
@@ -363,7 +362,7 @@ slot-decodes k f a e = go (decode f) refl e
         let own : j ≡ k = slot-one j k (omega arith) q in record { arguments = vs; reads = w ∙ ap (λ (i : ℕ). reading i vs) own }
     go (refuses x) w q = absurd (omega arith)
 
-pub ask-decodes : (k : ℕ) (o : List ℕ) (room : ℕ) (fs : List (List ℕ)) (n : ℕ) → (ask_on k o room fs).answer ≡ Done n
+pub ask-decodes : (k : ℕ) (o : List ℕ) (room : ℕ) (fs : List (List ℕ)) (n : ℕ) → (ask_on k o room fs).answer ≡ Ok n
     → DecodesTo k (take n (ask_on k o room fs).output)
 unfolding ask_on
 ask-decodes k o room fs n e = go (ltb (slot_for k) settings) refl (held (slot_for k) fs) refl e
@@ -374,7 +373,7 @@ ask-decodes k o room fs n e = go (ltb (slot_for k) settings) refl (held (slot_fo
     picked : Bool → Bool → Turn
     picked a b = cond a (cond b (tell (frame_of s fs) o fs) (refuse NotHeld o fs)) (refuse NotAKind o fs)
 
-    go : (a : Bool) → ltb s settings ≡ a → (b : Bool) → held s fs ≡ b → (picked a b).answer ≡ Done n → DecodesTo k (take n (picked a b).output)
+    go : (a : Bool) → ltb s settings ≡ a → (b : Bool) → held s fs ≡ b → (picked a b).answer ≡ Ok n → DecodesTo k (take n (picked a b).output)
     go true p true q w =
         let d = slot-decodes k (frame_of s fs) (ltb-true s settings p) (frame-slot s fs q) in
         subst (λ (f : List ℕ). DecodesTo k f) (sym (tell-done (frame_of s fs) o fs n w).written) d
@@ -382,12 +381,12 @@ ask-decodes k o room fs n e = go (ltb (slot_for k) settings) refl (held (slot_fo
     go false p b q w = absurd (done_refused n NotAKind (sym w))
 
 pub replay-whole : (o : List ℕ) (room : ℕ) (fs : List (List ℕ)) → length (flat fs) + length fs ≤ length o
-    → replay_on o room fs ≡ record { answer = Done (length (flat fs) + length fs); output = reel_of fs ++ drop (length (flat fs) + length fs) o; frames = fs }
+    → replay_on o room fs ≡ record { answer = Ok (length (flat fs) + length fs); output = reel_of fs ++ drop (length (flat fs) + length fs) o; frames = fs }
 unfolding replay_on
 replay-whole o room fs h = rw (reel-length fs, le-leb _ _ h)
 
 -- what a replay wrote, stepped through by the reel's own step: the list's frames, in order, and then the end
-pub replay-steps : (o : List ℕ) (room : ℕ) (fs : List (List ℕ)) (n : ℕ) → (replay_on o room fs).answer ≡ Done n
+pub replay-steps : (o : List ℕ) (room : ℕ) (fs : List (List ℕ)) (n : ℕ) → (replay_on o room fs).answer ≡ Ok n
     → walk n (take n (replay_on o room fs).output) 0 ≡ record { found = fs; last = End }
 unfolding replay_on
 replay-steps o room fs n e =

@@ -13,7 +13,7 @@ use Rattle.contents.specs.Frames.{flat, held}
 use Rattle.contents.proofs.Shape.{Sound}
 use Rattle.forms.specs.Forms.{other}
 use Rattle.forms.proofs.Forms.{OneForm}
-use Rattle.book.specs.declared.Answer.TheVariants.{Done, Refused}
+use Rattle.std.specs.Prelude.{Ok, Err}
 use Rattle.book.specs.Plain.{placed}
 use Rattle.book.specs.History.{Call, Heard, Put, on_list, turn}
 use Rattle.contents.proofs.Lists.{flat-split, held_after, held-before, held-here, sound-middle}
@@ -27,7 +27,7 @@ puts (f ∷ fs) = Put f ∷ puts fs
 
 -- and its answer where it is done
 abbrev pub done : Heard
-done = record { answer = Done 0; output = [] }
+done = record { answer = Ok 0; output = [] }
 
 abbrev pub dones : List (List ℕ) → List Heard
 dones [] = []
@@ -97,7 +97,7 @@ module _ (room : ℕ) where
   -- one frame more than has room
   pub puts-over : (fs : List (List ℕ)) (f : List ℕ) → Sound (fs ++ (f ∷ [])) → OneForm (fs ++ (f ∷ [])) → length (flat fs) ≤ room
       → room < length (flat (fs ++ (f ∷ []))) → on_list (turn room) (puts fs ++ (Put f ∷ [])) []
-      ≡ record { heard = dones fs ++ (record { answer = Refused NoRoom; output = [] } ∷ []); frames = fs }
+      ≡ record { heard = dones fs ++ (record { answer = Err NoRoom; output = [] } ∷ []); frames = fs }
   unfolding on_list turn
   puts-over fs f s F r o =
       puts_then [] fs (Put f ∷ []) (sound-front fs (f ∷ []) s) (forms-front fs (f ∷ []) F) r

@@ -15,23 +15,22 @@ use Rattle.contents.proofs.Places.{judge-place}
 use Rattle.decoder.specs.Decoding.{Reading, decode, reading, refuses}
 use Rattle.codec.proofs.Places.{decode-place, place_in}
 use Rattle.reel.specs.Reel.{reel_of}
-use Rattle.book.specs.declared.Answer.{Answer}
-use Rattle.book.specs.declared.Answer.TheVariants.{Done, Refused}
+use Rattle.std.specs.Prelude.{Ok, Err}
 use Rattle.table.specs.Table.{settings}
 use Rattle.settings.specs.Settings.{lacks, slot_for, slot_of}
 use Rattle.contents.specs.Frames.{flat, held}
 use Rattle.contents.specs.Contents.{Contents, Layout, holds, image, judge, longest, refused}
 use Rattle.contents.specs.Contents.{start}
 use Rattle.forms.specs.Forms.{single}
-use Rattle.book.specs.Plain.{Turn, ask_on, become, clear_on, frame_of, placed, put_on, refuse, remove_on, replay_on, tell, without}
+use Rattle.book.specs.Plain.{Turn, ask_on, become, clear_on, frame_of, placed, put_on, refuse, remove_on, replay_on, tell, without, Answer}
 use Rattle.book.specs.Book.{Edit, Outcome, Read, Use, agreed, call_for, layout_in, made, on_contents, opened, opened_for, ours, room_in}
 use Rattle.book.specs.History.{Ask, Call, Clear, Make, Put, Remove, Replay, after}
 use Rattle.book.proofs.Versions.{refuses-opened}
 
 -- what is said of an answer that is a refusal
 abbrev pub Says : (Refusal → Type 0) → Answer → Type 0
-Says P (Done n) = Unit
-Says P (Refused x) = P x
+Says P (Ok n) = Unit
+Says P (Err x) = P x
 
 -- what holds of the steps' refusals
 pub record Steps (P : Refusal → Type 0) : Type 0 where
@@ -49,9 +48,9 @@ module _ (P : Refusal → Type 0) (l : Layout) (b : List ℕ) (size : P BufferSi
   made-says = by (leb (start l.slots) (length b)) (leb (length b) longest)
     where
       no : Outcome
-      no = record { answer = Refused BufferSize; output = []; bytes = b }
+      no = record { answer = Err BufferSize; output = []; bytes = b }
 
-      by : (s t : Bool) → Says P (cond {A = Outcome} s (cond t (record { answer = Done 0; output = []; bytes = image l (length b) [] }) no) no).answer
+      by : (s t : Bool) → Says P (cond {A = Outcome} s (cond t (record { answer = Ok 0; output = []; bytes = image l (length b) [] }) no) no).answer
       by true true = tt
       by true false = size
       by false t = size
@@ -62,7 +61,7 @@ module _ (P : Refusal → Type 0) (S : Steps P) where
   tell-says : (x o : List ℕ) (fs : List (List ℕ)) → Says P (tell x o fs).answer
   tell-says x o fs = by (leb (length x) (length o))
     where
-      by : (t : Bool) → Says P (cond {A = Turn} t (record { answer = Done (length x); output = x ++ drop (length x) o; frames = fs })
+      by : (t : Bool) → Says P (cond {A = Turn} t (record { answer = Ok (length x); output = x ++ drop (length x) o; frames = fs })
           (refuse OutputShort o fs)).answer
       by true = tt
       by false = S.short
@@ -161,5 +160,5 @@ opened_for-says P both b h u x e = opened-says P both (layout_in b) b h x (refus
 pub opened_for-near : (b : List ℕ) (u : Use) (x : Refusal) → opened_for u b ≡ refused x → place_of x ≤ 12
 opened_for-near b = opened_for-says Near (omega arith) b (λ y w. omega (arith, judge-place (layout_in b) b y w))
 
-pub after-place : (b : List ℕ) (c : Call) (x : Refusal) → (after c b).answer ≡ Refused x → place_of x ≤ 12
+pub after-place : (b : List ℕ) (c : Call) (x : Refusal) → (after c b).answer ≡ Err x → place_of x ≤ 12
 after-place b c x e = subst (Says Near) e (after-says Near steps-near b (opened_for-near b) (omega arith) c)

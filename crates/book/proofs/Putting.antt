@@ -15,7 +15,7 @@ use Rattle.spans.specs.Spans.{written}
 use Rattle.spans.proofs.Spans.{written-fits}
 use Rattle.refusal.specs.declared.Refusal.TheVariants.{NoRoom}
 use Rattle.decoder.specs.Decoding.{decode}
-use Rattle.book.specs.declared.Answer.TheVariants.{Done, Refused}
+use Rattle.std.specs.Prelude.{Ok, Err}
 use Rattle.table.specs.Table.{settings}
 use Rattle.settings.specs.Settings.{lacks, size_of, slot_of}
 use Rattle.settings.proofs.Settings.{slot_of-length}
@@ -114,9 +114,9 @@ module _ (f o : List ℕ) (n : ℕ) (fs : List (List ℕ)) where
     put_on-full r = rw (lt-ltb _ _ a, e, lt-leb _ _ r)
 
 module _ (l : Layout) (b : List ℕ) (B : Bytes b) (h : Holds l b) (f : List ℕ) (k : ℕ) (own : k ≡ slot_of f) where
-  pub put-bad : settings ≤ k → (x : Refusal) → lacks (decode f) ≡ x → Gives (call l (put_on f) [] b) (Refused x) [] b
+  pub put-bad : settings ≤ k → (x : Refusal) → lacks (decode f) ≡ x → Gives (call l (put_on f) [] b) (Err x) [] b
   put-bad a x e =
-      stay l b B h (put_on f) [] (Refused x) []
+      stay l b B h (put_on f) [] (Err x) []
       (put_on-bad f [] (room_of l (length b)) h.frames (omega arith) ∙ ap (λ (y : Refusal). refuse y [] h.frames) e)
 
   module _ (a : k < settings) (am : k < l.slots) (at : ℕ) (o : at ≡ offset_at b k) where
@@ -126,7 +126,7 @@ module _ (l : Layout) (b : List ℕ) (B : Bytes b) (h : Holds l b) (f : List ℕ
     pub put-room : (at ≡ 0 → ⊥) → at + length f ≤ length b
     put-room n = omega (arith, frame-len, held-within l b B h k at am o n, (holds-reads l b h).high)
 
-    pub put-over : (y : List ℕ) → (at ≡ 0 → ⊥) → y ≡ written b at f → Gives (call l (put_on f) [] b) (Done 0) [] y
+    pub put-over : (y : List ℕ) → (at ≡ 0 → ⊥) → y ≡ written b at f → Gives (call l (put_on f) [] b) (Ok 0) [] y
     put-over y n e =
         accept l (put_on f) [] b h (become [] (swap_in (slot_of f) f h.frames)) y
         (put_on-fits f [] (room_of l (length b)) h.frames (omega arith) _ (placed-over f h.frames hf)
@@ -174,12 +174,12 @@ module _ (l : Layout) (b : List ℕ) (B : Bytes b) (h : Holds l b) (f : List ℕ
     more : length (flat (h.frames ++ (f ∷ []))) ≡ length (flat h.frames) + length f
     more = ap length (flat_append h.frames f) ∙ length-append (flat h.frames) f
 
-    pub put_full : length b - e < length f → Gives (call l (put_on f) [] b) (Refused NoRoom) [] b
-    put_full r = stay l b B h (put_on f) [] (Refused NoRoom) []
+    pub put_full : length b - e < length f → Gives (call l (put_on f) [] b) (Err NoRoom) [] b
+    put_full r = stay l b B h (put_on f) [] (Err NoRoom) []
         (put_on-full f [] (room_of l (length b)) h.frames (omega (arith, N.own, N.small)) _ behind
         (omega (arith, more, N.ends, end_is l b B h, (holds-reads l b h).high)))
 
-    pub put-app : (y : List ℕ) → l.slots < 255 → length f ≤ length b - e → y ≡ appended_to l.slots k f b → Gives (call l (put_on f) [] b) (Done 0) [] y
+    pub put-app : (y : List ℕ) → l.slots < 255 → length f ≤ length b - e → y ≡ appended_to l.slots k f b → Gives (call l (put_on f) [] b) (Ok 0) [] y
     put-app y few r p =
         accept l (put_on f) [] b h (become [] (h.frames ++ (f ∷ []))) y
         (put_on-fits f [] (room_of l (length b)) h.frames (omega (arith, N.own, N.small)) _ behind (omega (arith, more, room)))
@@ -211,13 +211,13 @@ module _ (l : Layout) (b : List ℕ) (B : Bytes b) (h : Holds l b) (f : List ℕ
     same : swap_in t f h.frames ≡ swap_in (other (slot_of f)) f h.frames
     same = ap (λ (i : ℕ). swap_in i f h.frames) twin-is
 
-    pub put-tight : length b - (e - size_of t) < length f → Gives (call l (put_on f) [] b) (Refused NoRoom) [] b
+    pub put-tight : length b - (e - size_of t) < length f → Gives (call l (put_on f) [] b) (Err NoRoom) [] b
     put-tight r =
-        stay l b B h (put_on f) [] (Refused NoRoom) []
+        stay l b B h (put_on f) [] (Err NoRoom) []
         (put_on-full f [] (room_of l (length b)) h.frames (omega (arith, N.own, N.small)) _ (instead ∙ sym same)
         (omega (arith, r, N.ends, after, twin-in, end_is l b B h, (holds-reads l b h).high)))
 
-    pub put-swap : (y : List ℕ) → length f ≤ length b - (e - size_of t) → y ≡ swapped l.slots b at (size_of t) f k e → Gives (call l (put_on f) [] b) (Done 0) [] y
+    pub put-swap : (y : List ℕ) → length f ≤ length b - (e - size_of t) → y ≡ swapped l.slots b at (size_of t) f k e → Gives (call l (put_on f) [] b) (Ok 0) [] y
     put-swap y r p =
         accept l (put_on f) [] b h (become [] (swap_in t f h.frames)) y
         (put_on-fits f [] (room_of l (length b)) h.frames (omega (arith, N.own, N.small)) _ (instead ∙ sym same)

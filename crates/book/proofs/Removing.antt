@@ -21,7 +21,7 @@ use Rattle.contents.proofs.Shape.{Sound, place-ge, place_in}
 use Rattle.contents.proofs.Judged.{Bytes, offsets}
 use Rattle.book.specs.Plain.{become, refuse, remove_on, swap_in, without}
 use Rattle.book.specs.Book.{call}
-use Rattle.book.specs.declared.Answer.TheVariants.{Done, Refused}
+use Rattle.std.specs.Prelude.{Ok, Err}
 use Rattle.book.specs.Edits.{shifted_at, taken_out}
 use Rattle.book.proofs.Calls.{Gives, Holds, accept, holds-reads}
 use Rattle.book.proofs.Known.{count-is, end_is, is_held, is-image, not-held, stay, tiling}
@@ -144,19 +144,19 @@ module _ (k s : ℕ) (own : s ≡ slot_for k) (o : List ℕ) (n : ℕ) (fs : Lis
   remove_on-done a h = rw (← own, lt-ltb _ _ a, h)
 
 module _ (l : Layout) (b : List ℕ) (B : Bytes b) (h : Holds l b) (k s : ℕ) (own : s ≡ slot_for k) where
-  pub remove-none : settings ≤ s → Gives (call l (remove_on k) [] b) (Refused NotAKind) [] b
-  remove-none a = stay l b B h (remove_on k) [] (Refused NotAKind) [] (remove_on-none k s own [] (room_of l (length b)) h.frames a)
+  pub remove-none : settings ≤ s → Gives (call l (remove_on k) [] b) (Err NotAKind) [] b
+  remove-none a = stay l b B h (remove_on k) [] (Err NotAKind) [] (remove_on-none k s own [] (room_of l (length b)) h.frames a)
 
   module _ (a : s < settings) (am : s < l.slots) (at : ℕ) (o : at ≡ offset_at b s) where
-    pub remove_absent : at ≡ 0 → Gives (call l (remove_on k) [] b) (Refused NotHeld) [] b
-    remove_absent z = stay l b B h (remove_on k) [] (Refused NotHeld) []
+    pub remove_absent : at ≡ 0 → Gives (call l (remove_on k) [] b) (Err NotHeld) [] b
+    remove_absent z = stay l b B h (remove_on k) [] (Err NotHeld) []
         (remove_on-absent k s own [] (room_of l (length b)) h.frames a (not-held l b B h s at am o z))
 
     module _ (n : at ≡ 0 → ⊥) where
       pub some-held : 0 < get_or b 1 0
       some-held = omega (arith, count-is l b B h, length_without s h.frames (is_held l b B h s at am o n))
 
-      pub remove-done : (e : ℕ) (y : List ℕ) → e ≡ word_at b 2 → y ≡ taken_out l.slots b at (size_of s) e → Gives (call l (remove_on k) [] b) (Done 0) [] y
+      pub remove-done : (e : ℕ) (y : List ℕ) → e ≡ word_at b 2 → y ≡ taken_out l.slots b at (size_of s) e → Gives (call l (remove_on k) [] b) (Ok 0) [] y
       remove-done e y q p =
           accept l (remove_on k) [] b h (become [] (without s h.frames)) y
           (remove_on-done k s own [] (room_of l (length b)) h.frames a hk)

@@ -22,7 +22,7 @@ use Rattle.reel.specs.Reel.{reel_of}
 use Rattle.forms.specs.Forms.{most_bytes, most_frames}
 use Rattle.forms.proofs.Forms.{OneForm}
 use Rattle.forms.proofs.Most.{most_bytes_lem, most-frames}
-use Rattle.book.specs.declared.Answer.TheVariants.{Done}
+use Rattle.std.specs.Prelude.{Ok}
 use Rattle.book.specs.Plain.{Turn, become, placed, put_on}
 use Rattle.book.specs.Book.{Outcome, Use, full_book, longest_reel, opened, opened_for, ours}
 use Rattle.book.specs.History.{BytesRun, Call, Make, Put, after, on_bytes, on_list, turn}
@@ -117,7 +117,7 @@ history-opens b low high cs u =
 
 -- A BUFFER WITH ROOM FOR A FULL BOOK TAKES EVERY SETTING'S FRAME, after whatever calls
 pub never-full : (b : List ℕ) → full_book ≤ length b → length b ≤ longest → (cs : List Call) (f : List ℕ) → slot_of f < settings
-    → (after (Put f) (on_bytes after (Make ∷ cs) b).bytes).answer ≡ Done 0
+    → (after (Put f) (on_bytes after (Make ∷ cs) b).bytes).answer ≡ Ok 0
 unfolding turn
 never-full b low high cs f a =
     let kept = turns-kept ours.slots (omega arith) (room_of ours (length b)) (Make ∷ cs) [] (empty-kept ours.slots (room_of ours (length b))) in

@@ -17,7 +17,7 @@ use Rattle.contents.proofs.Judged.{Bytes}
 use Rattle.contents.proofs.Loops.{get_d_past}
 use Rattle.contents.proofs.Stored.{stored_at, stored-decodes, undecoded-ten}
 use Rattle.codec.proofs.SyncWord.{nb_bits_in, sync-word-most}
-use Rattle.book.specs.declared.Answer.TheVariants.{Refused}
+use Rattle.std.specs.Prelude.{Err}
 use Rattle.book.specs.Book.{Use, layout_in, opened_for}
 use Rattle.book.specs.History.{Call, after}
 use Rattle.book.proofs.Both.{is_make, ten-first}
@@ -64,7 +64,7 @@ module _ (b : List ℕ) (B : Bytes b) (present : sync_word_at b ≡ 0 → ⊥) w
       decoded-sync-word (stored-decodes (layout_in b) b fs (opened-judge (layout_in b) b fs (opened_for-opened u b fs e)) (slot_for 20) (sync-slot b) present)
 
   pub long-sync-word : start (layout_in b).slots ≤ length b → length b ≤ longest → 64 < nb_bits_at b
-      → (c : Call) → is_make c ≡ false → after c b ≡ record { answer = Refused NotWellFormed; output = lent_to c; bytes = b }
+      → (c : Call) → is_make c ≡ false → after c b ≡ record { answer = Err NotWellFormed; output = lent_to c; bytes = b }
   unfolding f
   long-sync-word low high long c n =
       ten-first b c n NotWellFormed

@@ -15,7 +15,7 @@ use Rattle.refusal.specs.declared.Refusal.TheVariants.{NotAKind, NotHeld, Output
 use Rattle.reel.specs.Reel.{reel_of}
 use Rattle.spans.specs.Spans.{written}
 use Rattle.spans.proofs.Spans.{written-fits}
-use Rattle.book.specs.declared.Answer.TheVariants.{Done, Refused}
+use Rattle.std.specs.Prelude.{Ok, Err}
 use Rattle.table.specs.Table.{settings}
 use Rattle.settings.specs.Settings.{size_of, slot_for, slot_of}
 use Rattle.settings.proofs.Settings.{slot_of-length}
@@ -76,10 +76,10 @@ set-lay o w v h = set_split o w v h ∙ ap (λ (n : ℕ). take w o ++ v ∷ drop
 -- ---- tell
 
 tell-fits : (x o : List ℕ) (fs : List (List ℕ)) (n : ℕ) → length x ≡ n → n ≤ length o
-    → tell x o fs ≡ record { answer = Done n; output = lay o 0 x; frames = fs }
+    → tell x o fs ≡ record { answer = Ok n; output = lay o 0 x; frames = fs }
 tell-fits x o fs n e h =
-    subst (λ (m : ℕ). tell x o fs ≡ record { answer = Done m; output = lay o 0 x; frames = fs }) e
-    (rw (le-leb (length x) (length o) (omega arith)) (ap (λ (i : ℕ). record { answer = Done (length x); output = x ++ drop i o; frames = fs }) (z (length x))))
+    subst (λ (m : ℕ). tell x o fs ≡ record { answer = Ok m; output = lay o 0 x; frames = fs }) e
+    (rw (le-leb (length x) (length o) (omega arith)) (ap (λ (i : ℕ). record { answer = Ok (length x); output = x ++ drop i o; frames = fs }) (z (length x))))
   where
     z : (n : ℕ) → n ≡ 0 + n
     z n = omega arith
@@ -133,12 +133,12 @@ module _ (k s : ℕ) (own : s ≡ slot_for k) (o : List ℕ) (n : ℕ) (fs : Lis
   ask_on-held a h = rw (← own, lt-ltb _ _ a, h)
 
 module _ (l : Layout) (b : List ℕ) (B : Bytes b) (h : Holds l b) (o : List ℕ) (k s : ℕ) (own : s ≡ slot_for k) where
-  pub ask-none : settings ≤ s → Gives (call l (ask_on k) o b) (Refused NotAKind) o b
-  ask-none a = stay l b B h (ask_on k) o (Refused NotAKind) o (ask_on-none k s own o (room_of l (length b)) h.frames a)
+  pub ask-none : settings ≤ s → Gives (call l (ask_on k) o b) (Err NotAKind) o b
+  ask-none a = stay l b B h (ask_on k) o (Err NotAKind) o (ask_on-none k s own o (room_of l (length b)) h.frames a)
 
   module _ (a : s < settings) (at : ℕ) (told : at ≡ offset_for l.slots b s) where
-    pub ask-absent : at ≡ 0 → Gives (call l (ask_on k) o b) (Refused NotHeld) o b
-    ask-absent z = stay l b B h (ask_on k) o (Refused NotHeld) o (ask_on-absent k s own o (room_of l (length b)) h.frames a (none-held l b B h s at told z))
+    pub ask-absent : at ≡ 0 → Gives (call l (ask_on k) o b) (Err NotHeld) o b
+    ask-absent z = stay l b B h (ask_on k) o (Err NotHeld) o (ask_on-absent k s own o (room_of l (length b)) h.frames a (none-held l b B h s at told z))
 
     module _ (n : at ≡ 0 → ⊥) where
       -- a slot that has an offset is among the layout's
@@ -159,19 +159,19 @@ module _ (l : Layout) (b : List ℕ) (B : Bytes b) (h : Holds l b) (o : List ℕ
       frame-length : at + (size_of s) ≤ length b → length (frame_of s h.frames) ≡ size_of s
       frame-length r = ap length (sym frame_at) ∙ length-take-le (size_of s) (drop at b) (omega (arith, length-drop at b))
 
-      pub ask-short : at + (size_of s) ≤ length b → length o < size_of s → Gives (call l (ask_on k) o b) (Refused OutputShort) o b
+      pub ask-short : at + (size_of s) ≤ length b → length o < size_of s → Gives (call l (ask_on k) o b) (Err OutputShort) o b
       ask-short r w =
-          stay l b B h (ask_on k) o (Refused OutputShort) o
+          stay l b B h (ask_on k) o (Err OutputShort) o
           (ask_on-held k s own o (room_of l (length b)) h.frames a (is_held l b B h s at among stands n)
           ∙ tell-short (frame_of s h.frames) o h.frames (omega (arith, frame-length r)))
 
       pub ask-done : (x r : List ℕ) → at + (size_of s) ≤ length b → size_of s ≤ length o → r ≡ take (at + (size_of s) - at) (drop at b) → x ≡ written o 0 r
-          → Gives (call l (ask_on k) o b) (Done (size_of s)) x b
+          → Gives (call l (ask_on k) o b) (Ok (size_of s)) x b
       ask-done x r i w e p =
-          stay l b B h (ask_on k) o (Done (size_of s)) x
+          stay l b B h (ask_on k) o (Ok (size_of s)) x
           (ask_on-held k s own o (room_of l (length b)) h.frames a (is_held l b B h s at among stands n)
           ∙ tell-fits (frame_of s h.frames) o h.frames (size_of s) (frame-length i) w
-          ∙ ap (λ (y : List ℕ). record { answer = Done (size_of s); output = y; frames = h.frames })
+          ∙ ap (λ (y : List ℕ). record { answer = Ok (size_of s); output = y; frames = h.frames })
           (sym (p ∙ written-fits o 0 r (omega (arith, size)) ∙ paste-lay o 0 r (length r) refl
           ∙ ap (lay o 0) (e ∙ ap (λ (n : ℕ). take n (drop at b)) (c at (size_of s)) ∙ frame_at))))
         where
@@ -247,17 +247,17 @@ module _ (l : Layout) (b : List ℕ) (B : Bytes b) (h : Holds l b) (o : List ℕ
   size : length (reel_of h.frames) ≡ e - start l.slots + c
   size = omega (arith, reel-length h.frames, end_is l b B h, count-is l b B h)
 
-  pub replay-short : length o < e - start l.slots + c → Gives (call l replay_on o b) (Refused OutputShort) o b
+  pub replay-short : length o < e - start l.slots + c → Gives (call l replay_on o b) (Err OutputShort) o b
   unfolding replay_on
-  replay-short w = stay l b B h replay_on o (Refused OutputShort) o (tell-short (reel_of h.frames) o h.frames (omega (arith, size)))
+  replay-short w = stay l b B h replay_on o (Err OutputShort) o (tell-short (reel_of h.frames) o h.frames (omega (arith, size)))
 
   pub replay-done : (x : List ℕ) → e - start l.slots + c ≤ length o → x ≡ reel_from l.slots c b (start l.slots) e 0 o
-      → Gives (call l replay_on o b) (Done (e - start l.slots + c)) x b
+      → Gives (call l replay_on o b) (Ok (e - start l.slots + c)) x b
   unfolding replay_on
   replay-done x w p =
-      stay l b B h replay_on o (Done (e - start l.slots + c)) x
+      stay l b B h replay_on o (Ok (e - start l.slots + c)) x
       (tell-fits (reel_of h.frames) o h.frames (e - start l.slots + c) size w
-      ∙ ap (λ (y : List ℕ). record { answer = Done (e - start l.slots + c); output = y; frames = h.frames })
+      ∙ ap (λ (y : List ℕ). record { answer = Ok (e - start l.slots + c); output = y; frames = h.frames })
       (sym (p ∙ reel-lay l.slots c b (start l.slots) e h.frames 0 o
       (ap₂ (λ (i j : ℕ). frames_from l.slots i b (start l.slots) j) qc qe ∙ (holds-reads l b h).tiled) (omega (arith, size)))))
 

@@ -14,9 +14,8 @@ use Rattle.settings.specs.Settings.{size_of, slot_of}
 use Rattle.settings.proofs.Settings.{size-high, size_low, slot_of-length}
 use Rattle.contents.specs.Contents.{Contents, Layout, holds, refused}
 use Rattle.contents.proofs.Shape.{Sound}
-use Rattle.book.specs.declared.Answer.{Answer}
-use Rattle.book.specs.declared.Answer.TheVariants.{Done, Refused}
-use Rattle.book.specs.Plain.{replay_on}
+use Rattle.std.specs.Prelude.{Ok, Err}
+use Rattle.book.specs.Plain.{replay_on, Answer}
 use Rattle.book.specs.Book.{Read, call_for, layout_in, longest_reel, on_contents, opened, opened_for, room_in}
 use Rattle.book.specs.History.{Replay, after}
 use Rattle.book.proofs.Calls.{done_refused}
@@ -38,19 +37,19 @@ pub record Replayed (b out : List ℕ) (n : ℕ) : Type 0 where
 module _ (b o : List ℕ) (long : longest_reel ≤ length o) where
   replayed : (fs : List (List ℕ)) → opened_for Read b ≡ holds fs
       → replay_on o (room_in b) fs
-      ≡ record { answer = Done (length (reel_of fs)); output = reel_of fs ++ drop (length (reel_of fs)) o; frames = fs }
+      ≡ record { answer = Ok (length (reel_of fs)); output = reel_of fs ++ drop (length (reel_of fs)) o; frames = fs }
   unfolding replay_on
   replayed fs h = rw (le-leb (length (reel_of fs)) (length o) (omega (arith, replay-most (layout_in b) b fs (opened_for-opened Read b fs h))))
 
-  pub replay-refused : (a : Answer) (x : Refusal) → a ≡ (after (Replay o) b).answer → a ≡ Refused x → opened_for Read b ≡ refused x
+  pub replay-refused : (a : Answer) (x : Refusal) → a ≡ (after (Replay o) b).answer → a ≡ Err x → opened_for Read b ≡ refused x
   unfolding call_for
   replay-refused a x e z = go (opened_for Read b) refl e
     where
       go : (q : Contents) → opened_for Read b ≡ q → a ≡ (on_contents (layout_in b) replay_on o b q).answer → q ≡ refused x
-      go (refused y) h r = let u : Refused y ≡ Refused x = sym r ∙ z in cc
+      go (refused y) h r = let u : Err y ≡ Err x = sym r ∙ z in cc
       go (holds fs) h r = absurd (done_refused (length (reel_of fs)) x (sym (r ∙ rw (replayed fs h) refl) ∙ z))
 
-  pub replay-told : (a : Answer) (n : ℕ) (out : List ℕ) → a ≡ (after (Replay o) b).answer → out ≡ (after (Replay o) b).output → a ≡ Done n
+  pub replay-told : (a : Answer) (n : ℕ) (out : List ℕ) → a ≡ (after (Replay o) b).answer → out ≡ (after (Replay o) b).output → a ≡ Ok n
       → Replayed b out n
   unfolding call_for
   replay-told a n out e f z = go (opened_for Read b) refl e f
@@ -59,7 +58,7 @@ module _ (b o : List ℕ) (long : longest_reel ≤ length o) where
           → out ≡ (on_contents (layout_in b) replay_on o b q).output → Replayed b out n
       go (refused y) h r s = absurd (done_refused n y (sym z ∙ r))
       go (holds fs) h r s =
-          let u : Done (length (reel_of fs)) ≡ Done n = sym (r ∙ rw (replayed fs h) refl) ∙ z in
+          let u : Ok (length (reel_of fs)) ≡ Ok n = sym (r ∙ rw (replayed fs h) refl) ∙ z in
           let m : n ≡ length (reel_of fs) = cc in
           let k : n - 0 ≡ length (reel_of fs) = omega arith in
           let g : out ≡ reel_of fs ++ drop (length (reel_of fs)) o = s ∙ rw (replayed fs h) refl in

@@ -12,11 +12,10 @@ use Rattle.table.specs.Table.{settings}
 use Rattle.settings.specs.Settings.{slot_for}
 use Rattle.contents.specs.Frames.{flat}
 use Rattle.contents.specs.Contents.{Contents, Layout, holds, image, longest, refused, start}
-use Rattle.book.specs.declared.Answer.{Answer}
-use Rattle.book.specs.declared.Answer.TheVariants.{Done, Refused}
-use Rattle.book.specs.Plain.{Turn}
+use Rattle.std.specs.Prelude.{Err, IsErrAnd, Ok}
+use Rattle.book.specs.Plain.{Turn, Answer}
 use Rattle.book.specs.Book.{Edit, Permits, Tells, Use, call, call_for, layout_in, on_contents, opened, opened_for, ours, verdict}
-use Rattle.book.proofs.Calls.{Gives, done_refused, permits, permits-same, tells, tells-same}
+use Rattle.book.proofs.Calls.{Gives, done_refused, handed, permits, permits-same, tells, tells-same}
 
 -- ---- the layout
 
@@ -42,12 +41,12 @@ image-serves u n fs room high = record { layout = layout-image n fs; opens = ap 
 
 module _ (b : List ℕ) (n : ℕ) where
   -- what a use finds good is of a layout that serves it
-  pub opened_for-serves : (u : Use) → Done n ≡ verdict (opened_for u b) → Serves u (layout_in b) b
+  pub opened_for-serves : (u : Use) → Ok n ≡ verdict (opened_for u b) → Serves u (layout_in b) b
   unfolding opened_for
   opened_for-serves u e = record { layout = refl; opens = refl }
 
   -- what is edited is of our layout
-  pub edit-serves : Done n ≡ verdict (opened_for Edit b) → Serves Edit ours b
+  pub edit-serves : Ok n ≡ verdict (opened_for Edit b) → Serves Edit ours b
   unfolding opened_for layout_in
   edit-serves e = record { layout = refl; opens = refl }
 
@@ -89,10 +88,14 @@ module _ (s : List ℕ → ℕ → List (List ℕ) → Turn) (o b : List ℕ) wh
     tells-for = tells-same (call l s o b) (call_for u s o b) a x (sym (for-layout u l w)) (tells (call l s o b) a x y g)
 
   -- what a use refuses leaves output and bytes
-  pub turned-off : (u : Use) (a : Answer) (r : Refusal) → a ≡ verdict (opened_for u b) → a ≡ Refused r → Gives (call_for u s o b) a o b
+  pub turned-off : (u : Use) (a : Answer) (r : Refusal) → a ≡ verdict (opened_for u b) → a ≡ Err r → Gives (call_for u s o b) a o b
   unfolding call_for
   turned-off u a r e z = go (opened_for u b) refl
     where
       go : (q : Contents) → opened_for u b ≡ q → Gives (on_contents (layout_in b) s o b (opened_for u b)) a o b
-      go (refused n) w = let k : a ≡ Refused n = e ∙ ap verdict w in record { answer = rw w k; output = rw w; bytes = rw w }
+      go (refused n) w = let k : a ≡ Err n = e ∙ ap verdict w in record { answer = rw w k; output = rw w; bytes = rw w }
       go (holds fs) w = absurd (done_refused 0 r (sym (e ∙ ap verdict w) ∙ z))
+
+  -- so does what a `?` hands on of the refusal that it met
+  pub handed-on : (u : Use) (a r : Answer) (x : Refusal) → a ≡ verdict (opened_for u b) → a ≡ Err x → IsErrAnd r (λ y. y ≡ x) → Gives (call_for u s o b) r o b
+  handed-on u a r x e z h = turned-off u r x (handed r x h ∙ sym z ∙ e) (handed r x h)

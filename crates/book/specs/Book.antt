@@ -1,12 +1,10 @@
 -- A book's layout, and a call on a buffer's bytes as a step on the list that they hold (REFERENCE, "Book").
 -- Assumes nothing.
-use Rattle.std.specs.Prelude.{◌≡◌, ℕ, ◌+◌, Bool, cond, false, true, List, [], leb, length}
+use Rattle.std.specs.Prelude.{◌≡◌, ℕ, ◌+◌, Bool, cond, false, true, List, [], leb, length, Ok, Err}
 use Rattle.refusal.specs.declared.Refusal.TheVariants.{BothForms, BufferSize}
 use Rattle.contents.specs.Contents.{Contents, Layout, given, holds, image, judge, layout, longest, refused, room_of, start}
 use Rattle.forms.specs.Forms.{most_bytes, most_frames, single}
-use Rattle.book.specs.Plain.{Turn}
-use Rattle.book.specs.declared.Answer.{Answer}
-use Rattle.book.specs.declared.Answer.TheVariants.{Done, Refused}
+use Rattle.book.specs.Plain.{Turn, Answer}
 
 -- ---- the layout
 
@@ -57,8 +55,8 @@ unfoldable pub opened_for : Use → List ℕ → Contents
 opened_for u b = opened (layout_in b) b
 
 abbrev pub verdict : Contents → Answer
-verdict (refused x) = Refused x
-verdict (holds fs) = Done 0
+verdict (refused x) = Err x
+verdict (holds fs) = Ok 0
 
 -- ---- a call on bytes
 
@@ -69,7 +67,7 @@ pub record Outcome : Type 0 where
 
 -- What is refused alters nothing; a step on the frames leaves the image of its list.
 abbrev pub on_contents : Layout → (List ℕ → ℕ → List (List ℕ) → Turn) → List ℕ → List ℕ → Contents → Outcome
-on_contents l s o b (refused x) = record { answer = Refused x; output = o; bytes = b }
+on_contents l s o b (refused x) = record { answer = Err x; output = o; bytes = b }
 on_contents l s o b (holds fs) =
     record {
       answer = (s o (room_of l (length b)) fs).answer;
@@ -89,9 +87,9 @@ call_for u s o b = on_contents (layout_in b) s o b (opened_for u b)
 unfoldable pub made : Layout → List ℕ → Outcome
 made l b =
     cond (leb (start l.slots) (length b))
-    (cond (leb (length b) longest) (record { answer = Done 0; output = []; bytes = image l (length b) [] })
-    (record { answer = Refused BufferSize; output = []; bytes = b }))
-    (record { answer = Refused BufferSize; output = []; bytes = b })
+    (cond (leb (length b) longest) (record { answer = Ok 0; output = []; bytes = image l (length b) [] })
+    (record { answer = Err BufferSize; output = []; bytes = b }))
+    (record { answer = Err BufferSize; output = []; bytes = b })
 
 -- ---- what a contract permits: an outcome's answer with its bytes, or with its output, and no other
 

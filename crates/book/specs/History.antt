@@ -1,8 +1,7 @@
 -- A list of calls, one after the other: on a book's bytes, and on the plain list.
 -- Assumes nothing.
 use Rattle.std.specs.Prelude.{◌≡◌, ℕ, Bool, true, List, [], ◌∷◌}
-use Rattle.book.specs.declared.Answer.{Answer}
-use Rattle.book.specs.Plain.{Turn, ask_on, become, clear_on, put_on, remove_on, replay_on}
+use Rattle.book.specs.Plain.{Turn, ask_on, become, clear_on, put_on, remove_on, replay_on, Answer}
 use Rattle.book.specs.Book.{Edit, Outcome, Read, Use, call_for, made, ours, to_read}
 
 -- ---- runs, whatever the calls are

@@ -8,11 +8,13 @@ use Rattle.decoder.specs.declared.Decoded.{Decoded}
 use Rattle.decoder.specs.Decoding.{decode}
 use Rattle.reel.specs.Reel.{reel_of}
 use Rattle.contents.specs.Frames.{flat, held}
-use Rattle.book.specs.declared.Answer.{Answer}
-use Rattle.book.specs.declared.Answer.TheVariants.{Done, Refused}
 use Rattle.table.specs.Table.{settings}
 use Rattle.settings.specs.Settings.{lacks, slot_for, slot_of}
 use Rattle.forms.specs.Forms.{other}
+
+-- A call's answer: done, with the number of bytes written where the call writes to an output and else 0; or why it was refused.
+abbrev pub Answer : Type 0
+Answer = Result ℕ Refusal
 
 pub record Turn : Type 0 where
   pub answer : Answer
@@ -21,15 +23,15 @@ pub record Turn : Type 0 where
 
 -- What is refused leaves the output and the list as they were (REFERENCE, "Refusals").
 abbrev pub refuse : Refusal → List ℕ → List (List ℕ) → Turn
-refuse x o fs = record { answer = Refused x; output = o; frames = fs }
+refuse x o fs = record { answer = Err x; output = o; frames = fs }
 
 abbrev pub become : List ℕ → List (List ℕ) → Turn
-become o fs = record { answer = Done 0; output = o; frames = fs }
+become o fs = record { answer = Ok 0; output = o; frames = fs }
 
 -- Why a frame is no setting, by the decoder's answer: its kind is an action's, or it does not decode.
 abbrev pub declined_of : Result Decoded Refusal → Answer
-declined_of (Ok d) = Refused NotAKind
-declined_of (Err x) = Refused x
+declined_of (Ok d) = Err NotAKind
+declined_of (Err x) = Err x
 
 -- ---- the list
 
@@ -77,7 +79,7 @@ remove_on k o room fs = if_held (slot_for k) (become o (without (slot_for k) fs)
 -- The bytes come first in the output and their number is told; the rest of the output stays. An output that is too short is left alone.
 abbrev pub tell : List ℕ → List ℕ → List (List ℕ) → Turn
 tell x o fs =
-    cond (leb (length x) (length o)) (record { answer = Done (length x); output = x ++ drop (length x) o; frames = fs }) (refuse OutputShort o fs)
+    cond (leb (length x) (length o)) (record { answer = Ok (length x); output = x ++ drop (length x) o; frames = fs }) (refuse OutputShort o fs)
 
 -- a kind's frame
 unfoldable pub ask_on : ℕ → List ℕ → ℕ → List (List ℕ) → Turn

@@ -13,16 +13,11 @@ ghost use Rattle.book.specs.Book.{Edit, Permits, Read, Tells, call, opened_for, 
 ghost use Rattle.book.specs.Edits.{shifted_at, Low, remap, moved, refitted, swapped, taken_out, Tiles, reel_from};
 ghost use Rattle.book.specs.History.{Make, Put, Remove, Ask, Clear, Replay, after};
 
-use contents::Verdict;
 use refusal::Refusal;
 use settings::{size_of, slot_for};
 
 // A call's answer: done, with the number of bytes written where the call writes to an output and else 0; or why it was refused.
-#[derive(Clone, Copy)]
-pub enum Answer {
-    Done(usize),
-    Refused(Refusal),
-}
+pub type Answer = Result<usize, Refusal>;
 
 // The layout that is made and edited: its version, its slots, and where its frames start.
 const VERSION: u8 = 1;
@@ -33,12 +28,6 @@ const START: usize = 4 + 2 * SLOTS;
 
 // The longest reel of a book's frames: an output of so many bytes takes every replay.
 pub const LONGEST_REEL: usize = forms::MOST_BYTES + forms::MOST_FRAMES;
-
-fn byte_to_usize(x: u8) -> usize
-    ensures { (result ≡ x) × (result < 256) }
-{
-    x as usize
-}
 
 // The slots of the bytes' layout.
 pub fn slots_in(book: &[u8]) -> usize
@@ -51,18 +40,16 @@ pub fn slots_in(book: &[u8]) -> usize
 fn is_sound(book: &[u8], version: u8, slots: usize) -> Answer
     ensures { result ≡ verdict (opened (layout version slots) book.now) }
 {
-    match contents::check(book, version, slots) {
-        Verdict::WellFormed => {
-            if forms::both_forms(book, slots) {
-                return Answer::Refused(Refusal::BothForms);
-            }
-            Answer::Done(0)
-        }
-        Verdict::Refused(why) => Answer::Refused(why),
+    contents::check(book, version, slots)?;
+    if forms::both_forms(book, slots) {
+        Err(Refusal::BothForms)
+    } else {
+        Ok(0)
     }
 }
 
-// Whether the bytes are a book that can be read. Every refusal of a whole book is given by this function or the next, but for that of a make.
+// Whether the bytes are a book that can be read. Every refusal of a whole book is given by this function or the next, but for that of a make. They are
+// two, and say the same, for the version to come (docs/DESIGN, "A version of the book").
 pub fn ready_to_read(book: &[u8]) -> Answer
     ensures { result ≡ verdict (opened_for Read book.now) }
 {
@@ -81,8 +68,8 @@ fn declined(answer: Result<decoder::Decoded, Refusal>) -> Answer
     ensures { result ≡ declined_of answer }
 {
     match answer {
-        Ok(_) => Answer::Refused(Refusal::NotAKind),
-        Err(why) => Answer::Refused(why),
+        Ok(_) => Err(Refusal::NotAKind),
+        Err(why) => Err(why),
     }
 }
 
@@ -106,11 +93,9 @@ fn shift_offsets(b: &mut [u8], slots: usize, at: usize, old: usize, new: usize)
     requires { (start slots ≤ length b.old) × (old ≤ at) × (new ≤ longest) × Low slots b.old }
     ensures { b.new ≡ remap (shifted_at at old new) slots b.old 0 }
 {
-    let mut s: usize = 0;
-    while s < slots {
+    for s in 0..slots {
         let o = contents::offset(b, s);
         spans::put_word(b, 4 + 2 * s, shifted(at, old, new, o));
-        s += 1;
     }
 }
 
@@ -145,9 +130,9 @@ fn take_out(b: &mut [u8], slots: usize, at: usize, len: usize, e: usize)
         × Low slots b.old }
     ensures { b.new ≡ taken_out slots b.old at len e }
 {
-    let c = byte_to_usize(b[1]);
+    let c = b[1];
     refit(b, slots, at, len, 0, e);
-    b[1] = (c - 1) as u8;
+    b[1] = c - 1;
 }
 
 // A frame of a slot where the old bytes at `at` stood, in a book whose frames end at e.
@@ -179,13 +164,11 @@ fn write_reel(b: &[u8], slots: usize, c: usize, e: usize, out: &mut [u8])
 {
     let mut p: usize = 4 + 2 * slots;
     let mut w: usize = 0;
-    let mut i: usize = 0;
-    while i < c {
+    for _i in 0..c {
         let n = size_of(contents::slot_at(b, slots, p));
         write_frame(b, p, n, out, w);
         p += n;
         w = w + 1 + n;
-        i += 1;
     }
 }
 
@@ -196,23 +179,20 @@ pub fn make(book: &mut [u8]) -> Answer
     ensures { Permits (after Make book.old) result book.new }
 {
     if book.len() < START {
-        return Answer::Refused(Refusal::BufferSize);
+        return Err(Refusal::BufferSize);
     }
     if book.len() > contents::LONGEST {
-        return Answer::Refused(Refusal::BufferSize);
+        return Err(Refusal::BufferSize);
     }
     filling::blank(book, VERSION, SLOTS);
-    Answer::Done(0)
+    Ok(0)
 }
 
 // A setting's frame, in the place of the one that is held in either form, or behind all others.
 pub fn put(book: &mut [u8], frame: &[u8]) -> Answer
     ensures { Permits (after (Put frame.now) book.old) result book.new }
 {
-    let found = ready_to_edit(book);
-    let Answer::Done(_) = found else {
-        return found;
-    };
+    ready_to_edit(book)?;
     let answer = decoder::decode(frame);
     let Ok(decoded) = answer else {
         return declined(answer);
@@ -226,20 +206,20 @@ pub fn put(book: &mut [u8], frame: &[u8]) -> Answer
 
 // A put into a sound book, of a frame that is a setting's: a slot's frames are all of one length, so an overwrite needs no room.
 fn put_setting(book: &mut [u8], frame: &[u8], slot: usize) -> Answer
-    requires { (Answer.Done 0 ≡ verdict (opened ours book.old)) × (slot ≡ slot_of frame.now) × (slot < settings) }
+    requires { (Ok 0 ≡ verdict (opened ours book.old)) × (slot ≡ slot_of frame.now) × (slot < settings) }
     ensures { Permits (call ours (put_on frame.now) [] book.old) result book.new }
 {
     let at = contents::offset(book, slot);
     if at != 0 {
         spans::write(book, at, frame);
-        return Answer::Done(0);
+        return Ok(0);
     }
     put_new(book, frame, slot)
 }
 
 // A put of a form that is not held: where its other form stands, or behind all others. Room is judged on the frames after the put.
 fn put_new(book: &mut [u8], frame: &[u8], slot: usize) -> Answer
-    requires { (Answer.Done 0 ≡ verdict (opened ours book.old)) × (slot ≡ slot_of frame.now) × (slot < settings) × (0 ≡ offset_at book.old slot) }
+    requires { (Ok 0 ≡ verdict (opened ours book.old)) × (slot ≡ slot_of frame.now) × (slot < settings) × (0 ≡ offset_at book.old slot) }
     ensures { Permits (call ours (put_on frame.now) [] book.old) result book.new }
 {
     let e = contents::word(book, 2);
@@ -247,92 +227,80 @@ fn put_new(book: &mut [u8], frame: &[u8], slot: usize) -> Answer
     let at = contents::offset(book, twin);
     if at != 0 {
         let old = size_of(twin);
-        if frame.len() <= book.len() - (e - old) {
-            swap(book, SLOTS, at, old, frame, slot, e);
-            return Answer::Done(0);
+        if frame.len() > book.len() - (e - old) {
+            return Err(Refusal::NoRoom);
         }
-        return Answer::Refused(Refusal::NoRoom);
+        swap(book, SLOTS, at, old, frame, slot, e);
+        return Ok(0);
     }
     if frame.len() <= book.len() - e {
         filling::append(book, SLOTS, slot, frame);
-        return Answer::Done(0);
+        return Ok(0);
     }
-    Answer::Refused(Refusal::NoRoom)
+    Err(Refusal::NoRoom)
 }
 
 // Takes a kind's frame out, and closes the gap.
 pub fn remove(book: &mut [u8], kind: u64) -> Answer
     ensures { Permits (after (Remove kind) book.old) result book.new }
 {
-    let found = ready_to_edit(book);
-    let Answer::Done(_) = found else {
-        return found;
-    };
+    ready_to_edit(book)?;
     let slot = slot_for(kind);
-    if slot < table::SETTINGS {
-        let at = contents::offset(book, slot);
-        if at != 0 {
-            let e = contents::word(book, 2);
-            let n = size_of(slot);
-            take_out(book, SLOTS, at, n, e);
-            return Answer::Done(0);
-        }
-        return Answer::Refused(Refusal::NotHeld);
+    if slot >= table::SETTINGS {
+        return Err(Refusal::NotAKind);
     }
-    Answer::Refused(Refusal::NotAKind)
+    let at = contents::offset(book, slot);
+    if at == 0 {
+        return Err(Refusal::NotHeld);
+    }
+    let e = contents::word(book, 2);
+    let n = size_of(slot);
+    take_out(book, SLOTS, at, n, e);
+    Ok(0)
 }
 
 // Writes a kind's frame to the front of the output.
 pub fn ask(book: &[u8], kind: u64, out: &mut [u8]) -> Answer
     ensures { Tells (after (Ask kind out.old) book.now) result out.new }
 {
-    let found = ready_to_read(book);
-    let Answer::Done(_) = found else {
-        return found;
-    };
+    ready_to_read(book)?;
     let slot = slot_for(kind);
-    if slot < table::SETTINGS {
-        let at = contents::offset_for(book, slots_in(book), slot);
-        if at == 0 {
-            return Answer::Refused(Refusal::NotHeld);
-        }
-        let n = size_of(slot);
-        if n <= out.len() {
-            spans::write(out, 0, &book[at..at + n]);
-            return Answer::Done(n);
-        }
-        return Answer::Refused(Refusal::OutputShort);
+    if slot >= table::SETTINGS {
+        return Err(Refusal::NotAKind);
     }
-    Answer::Refused(Refusal::NotAKind)
+    let at = contents::offset_for(book, slots_in(book), slot);
+    if at == 0 {
+        return Err(Refusal::NotHeld);
+    }
+    let n = size_of(slot);
+    if n > out.len() {
+        return Err(Refusal::OutputShort);
+    }
+    spans::write(out, 0, &book[at..at + n]);
+    Ok(n)
 }
 
 // Takes every frame out.
 pub fn clear(book: &mut [u8]) -> Answer
     ensures { Permits (after Clear book.old) result book.new }
 {
-    let found = ready_to_edit(book);
-    let Answer::Done(_) = found else {
-        return found;
-    };
+    ready_to_edit(book)?;
     filling::blank(book, VERSION, SLOTS);
-    Answer::Done(0)
+    Ok(0)
 }
 
 // Writes all frames to the front of the output, each after its length, in the order of first entry.
 pub fn replay(book: &[u8], out: &mut [u8]) -> Answer
     ensures { Tells (after (Replay out.old) book.now) result out.new }
 {
-    let found = ready_to_read(book);
-    let Answer::Done(_) = found else {
-        return found;
-    };
+    ready_to_read(book)?;
     let slots = slots_in(book);
     let e = contents::word(book, 2);
-    let c = byte_to_usize(book[1]);
+    let c = book[1] as usize;
     let total = e - (4 + 2 * slots) + c;
     if total <= out.len() {
         write_reel(book, slots, c, e, out);
-        return Answer::Done(total);
+        return Ok(total);
     }
-    Answer::Refused(Refusal::OutputShort)
+    Err(Refusal::OutputShort)
 }

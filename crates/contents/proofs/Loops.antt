@@ -13,7 +13,7 @@ use lib.Dec.{eqb, leb}
 use lib.ListN.{drop, drop_of_length-le, get_or, length, take}
 use lib.Seq.{drop-cons}
 use Rattle.refusal.specs.declared.Refusal.TheVariants.{BufferSize, NotWellFormed}
-use Rattle.contents.specs.declared.Verdict.TheVariants.{Refused, WellFormed}
+use Rattle.std.specs.Prelude.{Err, Ok}
 use Rattle.settings.specs.Settings.{size_of, slot_of}
 use Rattle.contents.specs.Contents.{Contents, Layout, all_zero, before, frames_from, holds, judge, length_at, longest, offset_at, present_from, refused}
 use Rattle.contents.specs.Contents.{slot_at, slot_from, start, verdict_of, word_at}
@@ -39,14 +39,14 @@ pub all_zero-step : (b : List ℕ) (i : ℕ) → i < length b
 unfolding all_zero
 all_zero-step b i h = rw (add-one, drop-cons b i 0)
 
-pub verdict-step : (t : Bool) (f : List ℕ) (r : Contents) → verdict_of (cond t (refused NotWellFormed) (before f r)) ≡ cond t (Refused NotWellFormed)
+pub verdict-step : (t : Bool) (f : List ℕ) (r : Contents) → verdict_of (cond t (refused NotWellFormed) (before f r)) ≡ cond t (Err NotWellFormed)
     (verdict_of r)
 verdict-step true f r = refl
 verdict-step false f (refused x) = refl
 verdict-step false f (holds fs) = refl
 
 pub frames_from-step : (m n : ℕ) (b : List ℕ) (p e i : ℕ) → i < n
-    → verdict_of (frames_from m (n - i) b p e) ≡ cond (eqb (length_at m b p e) 0) (Refused NotWellFormed)
+    → verdict_of (frames_from m (n - i) b p e) ≡ cond (eqb (length_at m b p e) 0) (Err NotWellFormed)
     (verdict_of (frames_from m (n - (i + 1)) b (p + length_at m b p e) e))
 unfolding frames_from
 frames_from-step m n b p e i h =
@@ -94,18 +94,18 @@ all_zero-end b a i h = ap (λ (t : List ℕ). cond (eqb a 0) (all_zero t) false)
     itself true = refl
     itself false = refl
 
-pub frames_from-stop : (m n : ℕ) (b : List ℕ) (p e i : ℕ) → i < n → length_at m b p e ≡ 0 → verdict_of (frames_from m (n - i) b p e) ≡ Refused NotWellFormed
+pub frames_from-stop : (m n : ℕ) (b : List ℕ) (p e i : ℕ) → i < n → length_at m b p e ≡ 0 → verdict_of (frames_from m (n - i) b p e) ≡ Err NotWellFormed
 frames_from-stop m n b p e i h z = frames_from-step m n b p e i h ∙ rw (eq-eqb _ _ z)
 
 pub frames_from-pass : (m n : ℕ) (b : List ℕ) (p e i l : ℕ) → i < n → l ≡ length_at m b p e → (l ≡ 0 → ⊥)
     → verdict_of (frames_from m (n - i) b p e) ≡ verdict_of (frames_from m (n - (i + 1)) b (p + l) e)
 frames_from-pass m n b p e i l h q z = frames_from-step m n b p e i h ∙ rw (← q, ne_eqb _ _ z)
 
-pub frames_from-end : (m n : ℕ) (b : List ℕ) (p e i : ℕ) → n ≤ i → verdict_of (frames_from m (n - i) b p e) ≡ cond (eqb p e) WellFormed (Refused NotWellFormed)
+pub frames_from-end : (m n : ℕ) (b : List ℕ) (p e i : ℕ) → n ≤ i → verdict_of (frames_from m (n - i) b p e) ≡ cond (eqb p e) (Ok tt) (Err NotWellFormed)
 unfolding frames_from
 frames_from-end m n b p e i h = ap (λ (x : ℕ). verdict_of (frames_from m x b p e)) (minus-end n i h) ∙ verdict-end (eqb p e)
   where
-    verdict-end : (t : Bool) → verdict_of (cond t (holds []) (refused NotWellFormed)) ≡ cond t WellFormed (Refused NotWellFormed)
+    verdict-end : (t : Bool) → verdict_of (cond t (holds []) (refused NotWellFormed)) ≡ cond t (Ok tt) (Err NotWellFormed)
     verdict-end true = refl
     verdict-end false = refl
 

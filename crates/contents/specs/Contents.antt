@@ -1,12 +1,10 @@
 -- A book's bytes: the frames that are read in them (`judge`), and the bytes of a list of frames (`image`), for any layout (REFERENCE, "Book").
 -- Assumes nothing.
-use Rattle.std.specs.Prelude.{ℕ, zero, suc, ◌+◌, ◌-◌, ◌*◌, ◌/◌, ◌%◌, Bool, true, false, cond, not, List, [], ◌∷◌, ◌++◌, eqb, leb, ltb, length, take, drop, get_or, replicate}
+use Rattle.std.specs.Prelude.{ℕ, zero, suc, ◌+◌, ◌-◌, ◌*◌, ◌/◌, ◌%◌, Bool, true, false, cond, not, List, [], ◌∷◌, ◌++◌, eqb, leb, ltb, length, take, drop, get_or, replicate, Result, Ok, Err, ⊤}
 use Rattle.refusal.specs.declared.Refusal.{Refusal}
 use Rattle.refusal.specs.declared.Refusal.TheVariants.{NotWellFormed, BufferSize}
 use Rattle.settings.specs.Settings.{size_of, slot_of}
 use Rattle.contents.specs.Frames.{flat, place}
-use Rattle.contents.specs.declared.Verdict.{Verdict}
-use Rattle.contents.specs.declared.Verdict.TheVariants.{WellFormed, Refused}
 
 -- ---- the layout
 
@@ -118,9 +116,9 @@ judge l b =
     (frames_from l.slots (get_or b 1 0) b (start l.slots) (word_at b 2))))))))
 
 -- what is told of it: the refusal, or that the bytes are well formed
-abbrev pub verdict_of : Contents → Verdict
-verdict_of (refused x) = Refused x
-verdict_of (holds fs) = WellFormed
+abbrev pub verdict_of : Contents → Result ⊤ Refusal
+verdict_of (refused x) = Err x
+verdict_of (holds fs) = Ok tt
 
 -- ---- the bytes of a list of frames
 

@@ -25,7 +25,7 @@ use Rattle.status.specs.Codes.{cmds, good_cmd}
 use Rattle.status.specs.Notation.{field, wide}
 use Rattle.contents.specs.Contents.{Contents, holds, refused}
 use Rattle.contents.proofs.Places.{judge-own, judge-place}
-use Rattle.book.specs.declared.Answer.TheVariants as told
+use Rattle.std.specs.Prelude.{Ok, Err}
 use Rattle.book.specs.Book.{Read, layout_in, longest_reel, opened_for}
 use Rattle.book.specs.History.{Replay, after}
 use Rattle.book.proofs.Told.{Fits, Replayed, opened-fits, replay-told}
@@ -294,7 +294,7 @@ module _ (b : List ℕ) (fs : List (List ℕ)) (opens : opened_for Read b ≡ ho
   empty-done e = ap start_of opens ∙ ap (λ (t : Bool). answer.Now (cond t state.Done (state.Running 0))) (eq-eqb n 0 e)
 
   -- THE FRAMES ARE THE REPLAY'S, in its order: what a replay into an output that takes every reel writes is the reel of just these
-  pub sent-replay : (o : List ℕ) → longest_reel ≤ length o → (m : ℕ) → (after (Replay o) b).answer ≡ told.Done m
+  pub sent-replay : (o : List ℕ) → longest_reel ≤ length o → (m : ℕ) → (after (Replay o) b).answer ≡ Ok m
       → unreel (take m (after (Replay o) b).output) ≡ record { frames = fs; rest = [] }
   sent-replay o long m e =
       ap (λ (k : ℕ). unreel (take k (after (Replay o) b).output)) same_count

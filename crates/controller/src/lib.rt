@@ -95,13 +95,13 @@ pub fn start(book: &[u8]) -> Answer
     let mut reel = [0u8; book::LONGEST_REEL];
     let told = book::replay(book, &mut reel);
     match told {
-        book::Answer::Done(n) => {
+        Ok(n) => {
             if n == 0 {
                 return Answer::Now(State::Done);
             }
             Answer::Now(State::Running(0))
         }
-        book::Answer::Refused(why) => Answer::Refused(why),
+        Err(why) => Answer::Refused(why),
     }
 }
 
@@ -144,8 +144,8 @@ pub fn send(state: State, book: &[u8]) -> Sending
     let mut reel = [0u8; book::LONGEST_REEL];
     let told = book::replay(book, &mut reel);
     match told {
-        book::Answer::Done(n) => to_send(state, &reel[0..n]),
-        book::Answer::Refused(why) => empty(Turn::Refused(why)),
+        Ok(n) => to_send(state, &reel[0..n]),
+        Err(why) => empty(Turn::Refused(why)),
     }
 }
 
@@ -200,10 +200,10 @@ pub fn hear(state: State, book: &[u8], status: &[u8]) -> Answer
     let mut reel = [0u8; book::LONGEST_REEL];
     let told = book::replay(book, &mut reel);
     match told {
-        book::Answer::Done(n) => {
+        Ok(n) => {
             let good = goes_on(Status::from_slice(status).cmd());
             Answer::Now(heard(state, &reel[0..n], good))
         }
-        book::Answer::Refused(why) => Answer::Refused(why),
+        Err(why) => Answer::Refused(why),
     }
 }

@@ -20,9 +20,8 @@ use Rattle.refusal.specs.Numbers.{number_of}
 use Rattle.decoder.specs.Decoding.{reading, refuses, decode}
 use Rattle.codec.proofs.Places.{decode-own}
 use Rattle.contents.specs.Contents.{holds}
-use Rattle.book.specs.declared.Answer.{Answer}
-use Rattle.book.specs.declared.Answer.TheVariants.{Done, Refused}
-use Rattle.book.specs.Plain.{put_on, refuse}
+use Rattle.std.specs.Prelude.{Ok, Err}
+use Rattle.book.specs.Plain.{put_on, refuse, Answer}
 use Rattle.book.specs.Book.{Edit, call_for, opened_for, room_in}
 use Rattle.book.specs.History.{Put, after}
 use Rattle.day.specs.declared.Day.{Day}
@@ -53,8 +52,8 @@ module _ (f b : List ℕ) (d : Day) where
 
 pub latest-tallied : (k : ℕ) (a : Answer) (d : Day) → (tallied k a d).latest ≡ k
 unfolding accepted_one refused_one noted
-latest-tallied k (Done n) d = refl
-latest-tallied k (Refused x) d = go (ltb (number_of x) 9)
+latest-tallied k (Ok n) d = refl
+latest-tallied k (Err x) d = go (ltb (number_of x) 9)
   where
     go : (t : Bool) → (cond t (refused_one (number_of x) (noted k d)) (noted k d)).latest ≡ k
     go true = refl
@@ -86,8 +85,8 @@ pub record Skips (d e : Day) : Type 0 where
 
 skips-tallied : (a : Answer) (d : Day) (r : List ℕ) → Skips d (on_received r (tallied 0 a d))
 unfolding on_received missed accepted_one refused_one noted
-skips-tallied (Done n) d r = record { skipped = refl; lora_rx_stats = refl; lora_packet_status = refl; fsk_rx_stats = refl; fsk_packet_status = refl }
-skips-tallied (Refused x) d r = go (ltb (number_of x) 9)
+skips-tallied (Ok n) d r = record { skipped = refl; lora_rx_stats = refl; lora_packet_status = refl; fsk_rx_stats = refl; fsk_packet_status = refl }
+skips-tallied (Err x) d r = go (ltb (number_of x) 9)
   where
     go : (t : Bool) → Skips d (on_received r (cond t (refused_one (number_of x) (noted 0 d)) (noted 0 d)))
     go true = record { skipped = refl; lora_rx_stats = refl; lora_packet_status = refl; fsk_rx_stats = refl; fsk_packet_status = refl }
@@ -99,7 +98,7 @@ module _ (f : List ℕ) (x : Refusal) (e : decode f ≡ refuses x) where
   unfolding put_on slot_of
   stray-put room fs = rw e
 
-  stray-tallied : (d : Day) → (tallied 0 (Refused x) d).refused ≡ bumped (number_of x) d.refused
+  stray-tallied : (d : Day) → (tallied 0 (Err x) d).refused ≡ bumped (number_of x) d.refused
   unfolding refused_one noted
   stray-tallied d = rw (lt-ltb (number_of x) 9 (omega (arith, decode-own f x e)))
 
@@ -114,13 +113,13 @@ module _ (f : List ℕ) (x : Refusal) (e : decode f ≡ refuses x) where
 
   -- and on the list
   module _ (room : ℕ) (s : State) where
-    stray-on : on_sent room f s ≡ record { frames = s.frames; day = tallied 0 (Refused x) s.day }
+    stray-on : on_sent room f s ≡ record { frames = s.frames; day = tallied 0 (Err x) s.day }
     unfolding on_sent
     stray-on = rw (e, stray-put room s.frames)
 
     pub stray-skips-on : (r : List ℕ) → Skips s.day (day_on room (sent f ∷ received r ∷ []) s).day
     unfolding day_on
-    stray-skips-on r = rw stray-on (skips-tallied (Refused x) s.day r)
+    stray-skips-on r = rw stray-on (skips-tallied (Err x) s.day r)
 
     pub stray-counted-on : (on_sent room f s).day.refused ≡ bumped (number_of x) s.day.refused
     stray-counted-on = ap (λ (z : State). z.day.refused) stray-on ∙ stray-tallied s.day

@@ -26,9 +26,8 @@ use Rattle.decoder.specs.Decoding.{Reading, reading, refuses, decode}
 use Rattle.codec.proofs.Places.{decode-own}
 use Rattle.contents.specs.Frames.{flat}
 use Rattle.contents.specs.Contents.{image, longest, room_of, start}
-use Rattle.book.specs.declared.Answer.{Answer}
-use Rattle.book.specs.declared.Answer.TheVariants.{Done, Refused}
-use Rattle.book.specs.Plain.{Turn, become, placed, put_on, refuse}
+use Rattle.std.specs.Prelude.{Ok, Err}
+use Rattle.book.specs.Plain.{Turn, become, placed, put_on, refuse, Answer}
 use Rattle.book.specs.Book.{made, ours}
 use Rattle.book.specs.History.{BytesRun, Heard, after, on_bytes, on_list, turn}
 use Rattle.book.proofs.History.{history}
@@ -71,25 +70,25 @@ pub record Roomy (n : ℕ) (d : Day) : Type 0 where
 -- ---- a command
 
 which_in : Answer → ℕ
-which_in (Done n) = 0
-which_in (Refused x) = 1
+which_in (Ok n) = 0
+which_in (Err x) = 1
 
 number_in : Answer → ℕ
-number_in (Done n) = 0
-number_in (Refused x) = number_of x
+number_in (Ok n) = 0
+number_in (Err x) = number_of x
 
 -- the numbers by which a put is refused
 abbrev pub Putting : Refusal → Type 0
 Putting x = ((1 ≤ number_of x) × (number_of x ≤ 5)) ⊎ (number_of x ≡ 8)
 
 -- a put that is no action's is refused by 1 to 5 or by 8
-pub put-number : (f : List ℕ) (room : ℕ) (fs : List (List ℕ)) (x : Refusal) → is_action (decode f) ≡ false → (put_on f [] room fs).answer ≡ Refused x
+pub put-number : (f : List ℕ) (room : ℕ) (fs : List (List ℕ)) (x : Refusal) → is_action (decode f) ≡ false → (put_on f [] room fs).answer ≡ Err x
     → Putting x
 unfolding put_on slot_of number_in which_in
 put-number f room fs x a e = go (decode f) refl (ltb (slot_of f) settings) refl (leb (length (flat (placed f fs))) room) a e
   where
     go : (r : Reading) → decode f ≡ r → (y : Bool) → ltb (slot_in r) settings ≡ y → (w : Bool) → is_action r ≡ false
-        → (cond {A = Turn} y (cond w (become [] (placed f fs)) (refuse NoRoom [] fs)) (refuse (lacks r) [] fs)).answer ≡ Refused x → Putting x
+        → (cond {A = Turn} y (cond w (become [] (placed f fs)) (refuse NoRoom [] fs)) (refuse (lacks r) [] fs)).answer ≡ Err x → Putting x
     go r p true q true b k = absurd (let n : ◌≡◌ {A = ℕ} 0 1 = ap which_in k in omega arith)
     go r p true q false b k = inr (sym (ap number_in k))
     go (reading j vs) p false q w b k = absurd (false≢true (sym b ∙ ap not q))
@@ -165,7 +164,7 @@ module _ (n room : ℕ) (f : List ℕ) (s : State) (R : Roomy (suc n) s.day) whe
       }
 
   refusing : (x : Refusal) → accepts room fs f ≡ false → is_action (decode f) ≡ false → number_of x < 9
-      → Sends n room f s (record { frames = fs; day = tallied k (Refused x) d })
+      → Sends n room f s (record { frames = fs; day = tallied k (Err x) d })
   unfolding noted refused_one
   refusing x acc a h =
       let none : d.accepted ≡ 0 + d.accepted = omega arith in
@@ -173,7 +172,7 @@ module _ (n room : ℕ) (f : List ℕ) (s : State) (R : Roomy (suc n) s.day) whe
       sum-bumped (number_of x) d.refused (omega (arith, R.nine, h)) (omega (arith, R.puts))
       in
       let both : d.accepted + sum (bumped (number_of x) d.refused) ≡ d.accepted + sum d.refused + 1 = omega (arith, more) in
-      subst (λ (y : Day). Sends n room f s (record { frames = fs; day = y })) (tally-counted k d (Refused x) x refl (number_of x) refl h)
+      subst (λ (y : Day). Sends n room f s (record { frames = fs; day = y })) (tally-counted k d (Err x) x refl (number_of x) refl h)
       (record {
         frames = ap (λ (t : Bool). cond t (placed f fs) fs) (sym acc);
         latest = refl;
@@ -413,14 +412,14 @@ module _ (room : ℕ) where
 
   -- every one of these puts is done
   day-done-from : (rs : List Record) (fs : List (List ℕ))
-      → (on_list (turn room) (puts (accepted_from room fs rs)) fs).heard ≡ replicate (length (accepted_from room fs rs)) (record { answer = Done 0; output = [] })
+      → (on_list (turn room) (puts (accepted_from room fs rs)) fs).heard ≡ replicate (length (accepted_from room fs rs)) (record { answer = Ok 0; output = [] })
   unfolding accepted_from puts on_list turn
   day-done-from [] fs = refl
   day-done-from (received b ∷ rs) fs = day-done-from rs fs
   day-done-from (sent f ∷ rs) fs = go (accepts room fs f) refl (day-done-from rs (placed f fs)) (day-done-from rs fs)
     where
       done : Heard
-      done = record { answer = Done 0; output = [] }
+      done = record { answer = Ok 0; output = [] }
 
       go : (t : Bool) → accepts room fs f ≡ t
           → (on_list (turn room) (puts (accepted_from room (placed f fs) rs)) (placed f fs)).heard ≡ replicate (length (accepted_from room (placed f fs) rs)) done
@@ -434,7 +433,7 @@ module _ (room : ℕ) where
       go false a ih jh = jh
 
   pub day-done : (rs : List Record)
-      → (on_list (turn room) (puts (accepted_from room [] rs)) []).heard ≡ replicate (length (accepted_from room [] rs)) (record { answer = Done 0; output = [] })
+      → (on_list (turn room) (puts (accepted_from room [] rs)) []).heard ≡ replicate (length (accepted_from room [] rs)) (record { answer = Ok 0; output = [] })
   day-done rs = day-done-from rs []
 
 -- the bytes of the final book: those of a fresh book after these puts

@@ -14,8 +14,7 @@ use Rattle.refusal.specs.Numbers.{number_of}
 use Rattle.decoder.proofs.Handed.{decoded-reading, decoded-refuses}
 use Rattle.decoder.specs.declared.Decoded.{Decoded}
 use Rattle.decoder.specs.Decoding.{Reading, reading, refuses, decoded, decode}
-use Rattle.book.specs.declared.Answer.{Answer as Said}
-use Rattle.book.specs.declared.Answer.TheVariants as said
+use Rattle.book.specs.Plain.{Answer as Said}
 use Rattle.book.specs.Book.{Permits}
 use Rattle.book.specs.History.{Put, after}
 use Rattle.day.specs.declared.Day.{Day}
@@ -36,7 +35,7 @@ plus-stays count n h = rw (lt-leb (count + n) most h) refl
 -- ---- puts
 
 -- a put that was refused, by a number that has a count and by one that has none
-module _ (k : ℕ) (d : Day) (a : Said) (x : Refusal) (e : a ≡ said.Refused x) (n : ℕ) (m : n ≡ number_of x) where
+module _ (k : ℕ) (d : Day) (a : Said) (x : Refusal) (e : a ≡ Err x) (n : ℕ) (m : n ≡ number_of x) where
   pub tally-counted : n < 9 → refused_one n (noted k d) ≡ tallied k a d
   tally-counted h = rw (e, m, lt-ltb (number_of x) 9 (omega (arith, h, m))) refl
 

@@ -20,9 +20,8 @@ use Rattle.refusal.specs.Numbers.{number_of}
 use Rattle.decoder.specs.Decoding.{decode}
 use Rattle.cmd_lora.specs.Responses.{lora_rx_stats_rsp, lora_packet_status_rsp}
 use Rattle.cmd_fsk.specs.Responses.{fsk_rx_stats_rsp, fsk_packet_status_rsp}
-use Rattle.book.specs.declared.Answer.{Answer}
-use Rattle.book.specs.declared.Answer.TheVariants.{Done, Refused}
-use Rattle.book.specs.Plain.{placed, put_on}
+use Rattle.std.specs.Prelude.{Ok, Err}
+use Rattle.book.specs.Plain.{placed, put_on, Answer}
 use Rattle.day.specs.declared.Day.{Day}
 use Rattle.day.specs.Days.{accepted_one, bumped, fresh, is_action, kind_in, missed, most, noted, on_received, plus, refused_one, tallied}
 use Rattle.day.specs.Steps.{Record, State, day_on, morning, on_sent, received, sent, step}
@@ -69,8 +68,8 @@ record Reads {X : Type 0} (get : Day → X) (read : List ℕ → X) (k m : ℕ) 
 
 module _ {X : Type 0} (get : Day → X) (read : List ℕ → X) (k m : ℕ) (R : Reads get read k m) where
   tallied-get : (j : ℕ) (a : Answer) (d : Day) → get (tallied j a d) ≡ get d
-  tallied-get j (Done n) d = R.accepts (noted j d) ∙ R.kept j d
-  tallied-get j (Refused x) d = go (ltb (number_of x) 9)
+  tallied-get j (Ok n) d = R.accepts (noted j d) ∙ R.kept j d
+  tallied-get j (Err x) d = go (ltb (number_of x) 9)
     where
       go : (t : Bool) → get (cond t (refused_one (number_of x) (noted j d)) (noted j d)) ≡ get d
       go true = R.refuses (number_of x) (noted j d) ∙ R.kept j d
@@ -234,10 +233,10 @@ module _ (n room : ℕ) where
           (record { frames = (put_on f [] room s.frames).frames; day = tallied (kind_in (decode f)) a s.day })).day.refused n 0
           ≡ cond t 0 (cond (refuses_by n a) 1 0) + get_or s.day.refused n 0
       go true e a q = same
-      go false e (Done j) q = same
-      go false e (Refused x) q =
+      go false e (Ok j) q = same
+      go false e (Err x) q =
           let low : number_of x < 9 = putting-small x (put-number f room s.frames x e q) in
-          ap (λ (y : Day). get_or y.refused n 0) (sym (tally-counted (kind_in (decode f)) s.day (Refused x) x refl (number_of x) refl low))
+          ap (λ (y : Day). get_or y.refused n 0) (sym (tally-counted (kind_in (decode f)) s.day (Err x) x refl (number_of x) refl low))
           ∙ bumped-each s.day.refused (number_of x) n R.nine low (omega (arith, R.puts, one-of-sum s.day.refused (number_of x)))
 
   counts-refused-from : (rs : List Record) (s : State) → Roomy (length rs) s.day
@@ -277,5 +276,5 @@ module _ (n room : ℕ) where
 
       go : (t : Bool) → is_action (decode f) ≡ t → (a : Answer) → (put_on f [] room fs).answer ≡ a → ◌≡◌ {A = ℕ} (cond t 0 (cond (refuses_by n a) 1 0)) 0
       go true e a q = refl
-      go false e (Done j) q = refl
-      go false e (Refused x) q = rw (ne_eqb (number_of x) n (apart x (put-number f room fs x e q))) refl
+      go false e (Ok j) q = refl
+      go false e (Err x) q = rw (ne_eqb (number_of x) n (apart x (put-number f room fs x e q))) refl

@@ -6,8 +6,7 @@ use Rattle.settings.specs.Settings.{slot_for}
 use Rattle.refusal.specs.declared.Refusal.{Refusal}
 use Rattle.refusal.specs.Numbers.{number_of}
 use Rattle.decoder.specs.Decoding.{Reading, reading, refuses}
-use Rattle.book.specs.declared.Answer.{Answer}
-use Rattle.book.specs.declared.Answer.TheVariants.{Done, Refused}
+use Rattle.book.specs.Plain.{Answer}
 use Rattle.cmd_lora.specs.Responses.{lora_rx_stats_read, lora_packet_status_read}
 use Rattle.cmd_lora.specs.declared.rsp.LoraRxStatsRsp.{LoraRxStatsRsp}
 use Rattle.cmd_lora.specs.declared.rsp.LoraPacketStatusRsp.{LoraPacketStatusRsp}
@@ -104,8 +103,8 @@ refused_one n d =
 
 -- A put of a command of this kind, by the book's answer. No put on a sound book is refused by a number above 8; one that is, is counted nowhere.
 abbrev pub tallied : ℕ → Answer → Day → Day
-tallied k (Done n) d = accepted_one (noted k d)
-tallied k (Refused x) d = cond (ltb (number_of x) 9) (refused_one (number_of x) (noted k d)) (noted k d)
+tallied k (Ok n) d = accepted_one (noted k d)
+tallied k (Err x) d = cond (ltb (number_of x) 9) (refused_one (number_of x) (noted k d)) (noted k d)
 
 -- ---- an answer that was received
 

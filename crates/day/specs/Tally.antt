@@ -1,14 +1,12 @@
 -- What the counts of a day have to be, said of the records alone, and the frames that a day's book accepts (REFERENCE, "Playback").
 -- Assumes nothing.
-use Rattle.std.specs.Prelude.{ℕ, ◌+◌, Bool, false, cond, List, [], ◌∷◌, eqb, leb, ltb, length}
+use Rattle.std.specs.Prelude.{ℕ, ◌+◌, Bool, false, cond, List, [], ◌∷◌, eqb, leb, ltb, length, Ok, Err}
 use Rattle.table.specs.Table.{settings}
 use Rattle.settings.specs.Settings.{slot_of}
 use Rattle.contents.specs.Frames.{flat}
 use Rattle.decoder.specs.Decoding.{decode}
 use Rattle.refusal.specs.Numbers.{number_of}
-use Rattle.book.specs.declared.Answer.{Answer}
-use Rattle.book.specs.declared.Answer.TheVariants.{Done, Refused}
-use Rattle.book.specs.Plain.{placed, put_on}
+use Rattle.book.specs.Plain.{placed, put_on, Answer}
 use Rattle.book.specs.History.{Call, Put}
 use Rattle.day.specs.Days.{is_action, kind_in}
 use Rattle.day.specs.Steps.{Record, sent, received}
@@ -58,8 +56,8 @@ puts (f ∷ fs) = Put f ∷ puts fs
 
 -- whether an answer is a refusal by this number
 abbrev pub refuses_by : ℕ → Answer → Bool
-refuses_by n (Done k) = false
-refuses_by n (Refused x) = eqb (number_of x) n
+refuses_by n (Ok k) = false
+refuses_by n (Err x) = eqb (number_of x) n
 
 -- how many puts a list refuses by this number, in the order of the records
 unfoldable pub refused_from : ℕ → ℕ → List (List ℕ) → List Record → ℕ

@@ -158,10 +158,10 @@ fn tally(day: Day, kind: u64, answer: Answer) -> Day
 {
     let mut next = note(day, kind);
     match answer {
-        Answer::Done(_) => {
+        Ok(_) => {
             next.accepted = plus(day.accepted, 1);
         }
-        Answer::Refused(why) => {
+        Err(why) => {
             let n = wide(why.number());
             if n < 9 {
                 let mut refused = day.refused;

@@ -13,12 +13,6 @@ use reel::{Cursor, Step};
 // The most frames that a header's count can say.
 const MOST_COUNTED: u8 = 255;
 
-fn byte_to_usize(x: u8) -> usize
-    ensures { (result ≡ x) × (result < 256) }
-{
-    x as usize
-}
-
 // Whether a book of so many slots can have that length.
 fn is_sized(len: usize, slots: usize) -> bool
     ensures { result ≡ sized_for slots len }
@@ -54,20 +48,20 @@ fn has_room(b: &[u8], slots: usize, slot: usize, n: usize) -> bool
     if slot >= slots {
         return false;
     }
-    if is_sized(b.len(), slots) {
-        let e = contents::word(b, 2);
-        if e < 4 + 2 * slots {
-            return false;
-        }
-        if b.len() < e {
-            return false;
-        }
-        if b.len() - e < n {
-            return false;
-        }
-        return b[1] < MOST_COUNTED;
+    if !is_sized(b.len(), slots) {
+        return false;
     }
-    false
+    let e = contents::word(b, 2);
+    if e < 4 + 2 * slots {
+        return false;
+    }
+    if b.len() < e {
+        return false;
+    }
+    if b.len() - e < n {
+        return false;
+    }
+    b[1] < MOST_COUNTED
 }
 
 // A frame of a slot behind the others, with its offset in the header.
@@ -76,9 +70,9 @@ pub fn append(b: &mut [u8], slots: usize, slot: usize, frame: &[u8])
 {
     if has_room(b, slots, slot, frame.len()) {
         let e = contents::word(b, 2);
-        let c = byte_to_usize(b[1]);
+        let c = b[1];
         spans::write(b, e, frame);
-        b[1] = (c + 1) as u8;
+        b[1] = c + 1;
         spans::put_word(b, 2, e + frame.len());
         spans::put_word(b, 4 + 2 * slot, e);
     }

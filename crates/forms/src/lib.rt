@@ -18,18 +18,15 @@ pub const MOST_FRAMES: usize = 26;
 pub fn other_form(slot: usize) -> usize
     ensures { result ≡ other slot }
 {
-    let forms = table::forms();
-    let mut i: usize = 0;
-    while i < table::PAIRS {
-        let short = slot_for(forms[i][0]);
-        let long = slot_for(forms[i][1]);
+    for [short, long] in table::forms() {
+        let short = slot_for(short);
+        let long = slot_for(long);
         if slot == short {
             return long;
         }
         if slot == long {
             return short;
         }
-        i += 1;
     }
     slot
 }
@@ -38,23 +35,18 @@ pub fn other_form(slot: usize) -> usize
 fn both_present(book: &[u8], slots: usize, short: u64, long: u64) -> bool
     ensures { result ≡ present_for slots book.now (slot_for short) && present_for slots book.now (slot_for long) }
 {
-    if contents::offset_for(book, slots, slot_for(short)) == 0 {
-        return false;
-    }
-    contents::offset_for(book, slots, slot_for(long)) != 0
+    contents::offset_for(book, slots, slot_for(short)) != 0
+        && contents::offset_for(book, slots, slot_for(long)) != 0
 }
 
 // Whether a header of so many slots has offsets for both forms of a setting.
 pub fn both_forms(book: &[u8], slots: usize) -> bool
     ensures { result ≡ in_both (present_for slots book.now) }
 {
-    let forms = table::forms();
-    let mut i: usize = 0;
-    while i < table::PAIRS {
-        if both_present(book, slots, forms[i][0], forms[i][1]) {
+    for [short, long] in table::forms() {
+        if both_present(book, slots, short, long) {
             return true;
         }
-        i += 1;
     }
     false
 }

@@ -12,19 +12,15 @@ fn low(n: u32) -> u8 {
 // What is no call is done.
 fn lend(book: &mut [u8], first: u64) -> Answer {
     record::fill(book, (first % 256) as u8);
-    Answer::Done(0)
+    Ok(0)
 }
 
 // The data go over the bytes from `at` on, if there is room for all.
 fn poke(book: &mut [u8], at: usize, data: &[u8]) -> Answer {
-    if at <= book.len() {
-        if data.len() <= book.len() - at {
-            put_text(book, at, data);
-            return Answer::Done(0);
-        }
-        return Answer::Done(0);
+    if at <= book.len() && data.len() <= book.len() - at {
+        put_text(book, at, data);
     }
-    Answer::Done(0)
+    Ok(0)
 }
 
 pub(crate) fn carried(op: u8, r: &[u8], book: &mut [u8], lent: &mut [u8]) -> Answer
@@ -41,14 +37,14 @@ pub(crate) fn carried(op: u8, r: &[u8], book: &mut [u8], lent: &mut [u8]) -> Ans
         record::REPLAY => book::replay(book, lent),
         record::SIDE_PUT..=record::SIDE_REPLAY => side::carried(op, r, book, lent),
         record::START..=record::HEAR => control::carried(op, r, book, lent),
-        _ => Answer::Done(0),
+        _ => Ok(0),
     }
 }
 
 // An answer in four bytes: refusal, or 0 where it is done; place; the number of bytes written, high byte first.
 pub fn told(said: Answer) -> [u8; 4] {
     match said {
-        Answer::Done(n) => [0, 0, record::low(n / 256), record::low(n)],
-        Answer::Refused(why) => [low(why.number()), record::low(why.place()), 0, 0],
+        Ok(n) => [0, 0, record::low(n / 256), record::low(n)],
+        Err(why) => [low(why.number()), record::low(why.place()), 0, 0],
     }
 }

@@ -37,10 +37,10 @@ fn standing(outcome: u8, n: usize, lent: &mut [u8]) -> Answer {
         record::low(n),
     ];
     if lent.len() < all.len() {
-        return Answer::Done(0);
+        return Ok(0);
     }
     put_text(lent, 0, &all);
-    Answer::Done(all.len())
+    Ok(all.len())
 }
 
 fn told(said: controller::Answer, lent: &mut [u8]) -> Answer {
@@ -50,19 +50,19 @@ fn told(said: controller::Answer, lent: &mut [u8]) -> Answer {
             State::Done => standing(1, 0, lent),
             State::Stopped(position) => standing(2, position, lent),
         },
-        controller::Answer::Refused(why) => Answer::Refused(why),
+        controller::Answer::Refused(why) => Err(why),
     }
 }
 
 // Whether nothing is left to do, how many bytes are sent, and the twelve bytes of the frame.
 fn going(over: u8, n: usize, frame: &[u8; 12], lent: &mut [u8]) -> Answer {
     if lent.len() < SENDING {
-        return Answer::Done(0);
+        return Ok(0);
     }
     let head = [over, record::low(n)];
     put_text(lent, 0, &head);
     put_text(lent, 2, frame);
-    Answer::Done(SENDING)
+    Ok(SENDING)
 }
 
 // Of a send that is refused the twelve bytes are told too.
@@ -73,8 +73,8 @@ fn sent(sending: Sending, lent: &mut [u8]) -> Answer {
         Turn::Sends(n) => going(0, n, &frame, lent),
         Turn::Over => going(1, 0, &frame, lent),
         Turn::Refused(why) => {
-            going(0, 0, &frame, lent);
-            Answer::Refused(why)
+            let _told = going(0, 0, &frame, lent);
+            Err(why)
         }
     }
 }
@@ -87,7 +87,7 @@ pub(crate) fn carried(op: u8, r: &[u8], book: &[u8], lent: &mut [u8]) -> Answer
         return told(controller::start(book), lent);
     }
     if r.len() < STATUS {
-        return Answer::Done(0);
+        return Ok(0);
     }
     let state = stated(r[OUTCOME], record::kind(r));
     if op == record::SEND {

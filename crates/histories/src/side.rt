@@ -30,7 +30,7 @@ fn called(op: u8, r: &[u8], end: usize, book: &mut [u8], lent: &mut [u8]) -> Ans
         _ => {}
     }
     if rest.len() < 8 {
-        return Answer::Done(0);
+        return Ok(0);
     }
     let kind = record::number(&rest[0..8]);
     if op == record::SIDE_REMOVE {
@@ -44,11 +44,11 @@ pub(crate) fn carried(op: u8, r: &[u8], book: &mut [u8], lent: &mut [u8]) -> Ans
     requires { 12 ≤ length r.now }
 {
     if r.len() < OWNERS {
-        return Answer::Done(0);
+        return Ok(0);
     }
     let end = OWNERS + record::small(r[COUNT]);
     if r.len() < end {
-        return Answer::Done(0);
+        return Ok(0);
     }
     called(op, r, end, book, lent)
 }

@@ -12,8 +12,8 @@ use Rattle.refusal.specs.declared.Refusal.TheVariants.{BufferSize, TraceFault}
 use Rattle.refusal.specs.Numbers.{number_of}
 use Rattle.dump_text.specs.Whole.{dumped, filled}
 use Rattle.dump_text.proofs.Keeps.{refused-keeps as dump-keeps}
-use Rattle.book.specs.declared.Answer.{Answer}
-use Rattle.book.specs.declared.Answer.TheVariants.{Done, Refused}
+use Rattle.book.specs.Plain.{Answer}
+use Rattle.std.specs.Prelude.{Ok, Err}
 use Rattle.book.specs.History.{Call, after}
 use Rattle.contents.proofs.Judged.{Bytes}
 use Rattle.book.proofs.Keeps.{lent_to, refused-keeps}
@@ -44,8 +44,8 @@ pub book-keeps : (c : Call) (b : List ℕ) → Bytes b → 0 < (answer_c (after 
 book-keeps c b B = by (after c b).answer refl
   where
     by : (a : Answer) → (after c b).answer ≡ a → 0 < (answer_c a).refusal → ((after c b).output ≡ lent_to c) × ((after c b).bytes ≡ b)
-    by (Done n) e q = absurd (omega arith)
-    by (Refused x) e q = refused-keeps c b B x e
+    by (Ok n) e q = absurd (omega arith)
+    by (Err x) e q = refused-keeps c b B x e
 
 -- `hb_side_put` and its like
 pub shared_keeps : (t : OwnerTable) (w : ℕ) (c : Request) (o b : List ℕ) → Bytes b → 0 < (answer_c (side_call t w c o b).answer).refusal
@@ -54,8 +54,8 @@ shared_keeps t w c o b B = by (side_call t w c o b).answer refl
   where
     by : (a : Answer) → (side_call t w c o b).answer ≡ a → 0 < (answer_c a).refusal
         → ((side_call t w c o b).output ≡ o) × ((side_call t w c o b).bytes ≡ b)
-    by (Done n) e q = absurd (omega arith)
-    by (Refused x) e q = side-keeps t w c o b B x e
+    by (Ok n) e q = absurd (omega arith)
+    by (Err x) e q = side-keeps t w c o b B x e
 
 -- `hb_widths_find`
 pub codes-keep : (ns out : List ℕ) → 0 < (banks_c (found ns (length out))).refusal → found_in ns out ≡ out
@@ -70,8 +70,8 @@ pub play-keeps : (t b : List ℕ) → (day_c (plays t b).played).refusal ≡ 11 
 play-keeps t b = by (plays t b).played.answer refl
   where
     by : (a : Answer) → (plays t b).played.answer ≡ a → refusal_in a ≡ 11 → (plays t b).bytes ≡ b
-    by (Done n) e q = absurd (omega (arith, q))
-    by (Refused x) e q = own (day-keeps t b x e)
+    by (Ok n) e q = absurd (omega (arith, q))
+    by (Err x) e q = own (day-keeps t b x e)
       where
         own : ((x ≡ BufferSize) × ((plays t b).bytes ≡ b)) ⊎ ((p : ℕ) × (x ≡ TraceFault p)) → (plays t b).bytes ≡ b
         own (inl k) = k.1

@@ -22,9 +22,8 @@ use Rattle.contents.specs.Frames.{held}
 use Rattle.contents.specs.Contents.{Contents, holds, refused, room_of}
 use Rattle.std.specs.Prelude.{Result, Ok, Err}
 use Rattle.dump_text.specs.Whole.{filled}
-use Rattle.book.specs.declared.Answer.{Answer}
-use Rattle.book.specs.declared.Answer.TheVariants.{Done, Refused}
-use Rattle.book.specs.Plain.{Turn, ask_on, frame_of, refuse, replay_on, tell}
+use Rattle.std.specs.Prelude.{Ok, Err}
+use Rattle.book.specs.Plain.{Turn, ask_on, frame_of, refuse, replay_on, tell, Answer}
 use Rattle.book.specs.Book.{Outcome, Read, Use, call_for, layout_in, on_contents, opened_for}
 use Rattle.book.specs.History.{Ask, Call, Replay, after}
 use Rattle.book.proofs.Laws.{DecodesTo, ask-decodes}
@@ -62,8 +61,8 @@ refused-told : (x : Refusal) → Told (refused_c x)
 refused-told x = record { value = λ h. refl; place = λ e. absurd (omega (arith, (number-bounds x).0)) }
 
 answer-told : (a : Answer) → Told (answer_c a)
-answer-told (Done n) = done-told n
-answer-told (Refused x) = refused-told x
+answer-told (Ok n) = done-told n
+answer-told (Err x) = refused-told x
 
 pub book-told : (c : Call) (b : List ℕ) → Told (answer_c (after c b).answer)
 book-told c b = answer-told (after c b).answer
@@ -113,7 +112,7 @@ module _ (P : List ℕ → Type 0) (o : List ℕ) (fs : List (List ℕ)) where
   tell-writes x h = go (leb (length x) (length o))
     where
       go : (t : Bool)
-          → Writes P o (cond {A = Turn} t (record { answer = Done (length x); output = x ++ drop (length x) o; frames = fs }) (refuse OutputShort o fs))
+          → Writes P o (cond {A = Turn} t (record { answer = Ok (length x); output = x ++ drop (length x) o; frames = fs }) (refuse OutputShort o fs))
       go true e = record { text = x; own = h; many = refl; stands = refl }
       go false e = refuse-writes OutputShort e
 
@@ -137,8 +136,8 @@ ask-writes k o room fs e =
 
     go : (a : Answer) → (ask_on k o room fs).answer ≡ a → (answer_c a).refusal ≡ 0 → Wrote any o (answer_c a) (ask_on k o room fs).output
         → Wrote (DecodesTo k) o (answer_c a) (ask_on k o room fs).output
-    go (Refused y) q z w = absurd (omega (arith, z, (number-bounds y).0))
-    go (Done n) q z w =
+    go (Err y) q z w = absurd (omega (arith, z, (number-bounds y).0))
+    go (Ok n) q z w =
         let same : take n (ask_on k o room fs).output ≡ w.text =
         ap (λ (m : ℕ). take m (ask_on k o room fs).output) w.many
         ∙ ap (take (length w.text)) w.stands

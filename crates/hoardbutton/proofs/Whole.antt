@@ -18,7 +18,7 @@ use Rattle.builder.specs.Building.{Making, makes, built, checked, plain_by}
 use Rattle.codec.proofs.Laws.{decode-kind}
 use Rattle.codec.proofs.Places.{place_in, decode-place, Within, checked-within, plain-within}
 use Rattle.dump_text.proofs.Arguments.{decode-few}
-use Rattle.book.specs.declared.Answer.TheVariants.{Refused}
+use Rattle.std.specs.Prelude.{Err}
 use Rattle.book.specs.Book.{Read, opened_for}
 use Rattle.book.specs.History.{Call, after}
 use Rattle.book.proofs.Places.{after-place}
@@ -164,11 +164,11 @@ decoded-handed f = by (decode f) (decoded-whole f)
 -- ---- the book
 
 -- of every call: what an answer's place is, it is for C
-pub book-whole : (c : Call) (b : List ℕ) (x : Refusal) → (after c b).answer ≡ Refused x → low (place_of x) ≡ place_of x
+pub book-whole : (c : Call) (b : List ℕ) (x : Refusal) → (after c b).answer ≡ Err x → low (place_of x) ≡ place_of x
 book-whole c b x e = low_small (place_of x) (omega (arith, after-place b c x e))
 
 -- so of a side's
-pub side-whole : (t : OwnerTable) (w : ℕ) (c : Request) (o b : List ℕ) (x : Refusal) → (side_call t w c o b).answer ≡ Refused x → low (place_of x) ≡ place_of x
+pub side-whole : (t : OwnerTable) (w : ℕ) (c : Request) (o b : List ℕ) (x : Refusal) → (side_call t w c o b).answer ≡ Err x → low (place_of x) ≡ place_of x
 side-whole t w c o b x e = low_small (place_of x) (omega (arith, side-place b t w c o x e))
 
 -- ---- banks

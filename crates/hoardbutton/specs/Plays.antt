@@ -1,9 +1,8 @@
 -- A day as C has it: the refusal with its place, the counts, and the last readings, zeros where there is none (REFERENCE, "Playback").
 -- Assumes nothing.
-use Rattle.std.specs.Prelude.{ℕ, Option, None, Some, Ok, is_some}
+use Rattle.std.specs.Prelude.{ℕ, Option, None, Some, Ok, Err, is_some}
 use Rattle.refusal.specs.Numbers.{number_of, place_of}
-use Rattle.book.specs.declared.Answer.{Answer}
-use Rattle.book.specs.declared.Answer.TheVariants.{Done, Refused}
+use Rattle.book.specs.Plain.{Answer}
 use Rattle.cmd_lora.specs.declared.rsp.LoraRxStatsRsp.{LoraRxStatsRsp}
 use Rattle.cmd_lora.specs.declared.rsp.LoraPacketStatusRsp.{LoraPacketStatusRsp}
 use Rattle.cmd_fsk.specs.declared.rsp.FskRxStatsRsp.{FskRxStatsRsp}
@@ -19,12 +18,12 @@ use Rattle.hoardbutton.specs.Radio.{lora_packet_status_c, lora_packet_status_non
 
 -- the refusal's number and its place; 0 where there is none
 abbrev pub refusal_in : Answer → ℕ
-refusal_in (Done n) = 0
-refusal_in (Refused x) = number_of x
+refusal_in (Ok n) = 0
+refusal_in (Err x) = number_of x
 
 abbrev pub place_in : Answer → ℕ
-place_in (Done n) = 0
-place_in (Refused x) = place_of x
+place_in (Ok n) = 0
+place_in (Err x) = place_of x
 
 -- ---- the fields of the last readings
 

@@ -10,8 +10,8 @@ pub(crate) fn answered(a: Answer) -> HbAnswer
     ensures { result ≡ answer_c a }
 {
     match a {
-        Answer::Done(n) => done(n as u64),
-        Answer::Refused(why) => refused(why),
+        Ok(n) => done(n as u64),
+        Err(why) => refused(why),
     }
 }
 

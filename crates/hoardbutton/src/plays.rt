@@ -38,8 +38,8 @@ fn refusal_in(answer: Answer) -> u32
     ensures { result ≡ refusal_in answer }
 {
     match answer {
-        Answer::Done(_) => 0,
-        Answer::Refused(why) => why.number(),
+        Ok(_) => 0,
+        Err(why) => why.number(),
     }
 }
 
@@ -47,8 +47,8 @@ fn place_in(answer: Answer) -> u64
     ensures { result ≡ place_in answer }
 {
     match answer {
-        Answer::Done(_) => 0,
-        Answer::Refused(why) => why.place() as u64,
+        Ok(_) => 0,
+        Err(why) => why.place() as u64,
     }
 }
 

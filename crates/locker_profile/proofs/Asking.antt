@@ -21,8 +21,8 @@ use Rattle.settings.specs.Settings.{size_of, slot_for}
 use Rattle.settings.proofs.Settings.{size-high, slot_of-length}
 use Rattle.contents.specs.Frames.{held}
 use Rattle.contents.specs.Contents.{Contents, holds, refused}
-use Rattle.book.specs.declared.Answer.TheVariants as book
-use Rattle.book.specs.Plain.{Turn, ask_on, frame_of, refuse, tell}
+use Rattle.std.specs.Prelude.{Ok, Err}
+use Rattle.book.specs.Plain.{Answer, Turn, ask_on, frame_of, refuse, tell}
 use Rattle.book.specs.Book.{Read, call_for, layout_in, on_contents, opened_for, room_in}
 use Rattle.book.specs.History.{Ask, after}
 use Rattle.book.proofs.Calls.{done_refused}
@@ -74,7 +74,7 @@ module _ (k : ℕ) (a : slot_for k < settings) (o : List ℕ) (n : length o ≡ 
   -- so a kind that is held is told, and no other
   abbrev picked : List (List ℕ) → Bool → Turn
   picked fs t =
-      cond t (record { answer = book.Done (length (frame_for k fs)); output = frame_for k fs ++ drop (length (frame_for k fs)) o; frames = fs }) (refuse NotHeld o fs)
+      cond t (record { answer = Ok (length (frame_for k fs)); output = frame_for k fs ++ drop (length (frame_for k fs)) o; frames = fs }) (refuse NotHeld o fs)
 
   ask-list : (room : ℕ) (fs : List (List ℕ)) → ask_on k o room fs ≡ picked fs (held (slot_for k) fs)
   unfolding ask_on
@@ -85,24 +85,24 @@ module _ (k : ℕ) (a : slot_for k < settings) (o : List ℕ) (n : length o ≡ 
       by false h = refl
 
   module _ (b : List ℕ) where
-    pub ask-most : (m : ℕ) → book.Done m ≡ (after (Ask k o) b).answer → m ≤ 12
+    pub ask-most : (m : ℕ) → Ok m ≡ (after (Ask k o) b).answer → m ≤ 12
     unfolding call_for
     ask-most m e = by (opened_for Read b) e
       where
-        told : (fs : List (List ℕ)) (t : Bool) → held (slot_for k) fs ≡ t → book.Done m ≡ (picked fs t).answer → m ≤ 12
+        told : (fs : List (List ℕ)) (t : Bool) → held (slot_for k) fs ≡ t → Ok m ≡ (picked fs t).answer → m ≤ 12
         told fs true h e = let l : m ≡ length (frame_for k fs) = cc in omega (arith, frame-short (slot_for k) fs a h)
         told fs false h e = absurd (done_refused m NotHeld e)
 
-        by : (c : Contents) → book.Done m ≡ (on_contents (layout_in b) (ask_on k) o b c).answer → m ≤ 12
+        by : (c : Contents) → Ok m ≡ (on_contents (layout_in b) (ask_on k) o b c).answer → m ≤ 12
         by (refused x) e = absurd (done_refused m x e)
         by (holds fs) e = told fs (held (slot_for k) fs) refl (rw (ask-list (room_in b) fs) at e)
 
-    pub ask-held : (m : ℕ) (out : List ℕ) → book.Done m ≡ (after (Ask k o) b).answer → out ≡ (after (Ask k o) b).output
+    pub ask-held : (m : ℕ) (out : List ℕ) → Ok m ≡ (after (Ask k o) b).answer → out ≡ (after (Ask k o) b).output
         → given m (decode (take m out)) ≡ asked_of k (opened_for Read b)
     unfolding call_for
     ask-held m out e f = by (opened_for Read b) e f
       where
-        told : (fs : List (List ℕ)) (t : Bool) → book.Done m ≡ (picked fs t).answer → out ≡ (picked fs t).output
+        told : (fs : List (List ℕ)) (t : Bool) → Ok m ≡ (picked fs t).answer → out ≡ (picked fs t).output
             → given m (decode (take m out)) ≡ cond t (given (length (frame_for k fs)) (decode (frame_for k fs))) (withheld SettingMissing)
         told fs true e f =
             let x = frame_for k fs in
@@ -112,22 +112,22 @@ module _ (k : ℕ) (a : slot_for k < settings) (o : List ℕ) (n : length o ≡ 
             ∙ ap (λ (i : ℕ). given i (decode x)) l
         told fs false e f = absurd (done_refused m NotHeld e)
 
-        by : (c : Contents) → book.Done m ≡ (on_contents (layout_in b) (ask_on k) o b c).answer → out ≡ (on_contents (layout_in b) (ask_on k) o b c).output
+        by : (c : Contents) → Ok m ≡ (on_contents (layout_in b) (ask_on k) o b c).answer → out ≡ (on_contents (layout_in b) (ask_on k) o b c).output
             → given m (decode (take m out)) ≡ asked_of k c
         by (refused x) e f = absurd (done_refused m x e)
         by (holds fs) e f =
             told fs (held (slot_for k) fs) (rw (ask-list (room_in b) fs) at e) (rw (ask-list (room_in b) fs) at f)
 
-    pub ask-missing : (x : Refusal) → book.Refused x ≡ (after (Ask k o) b).answer → withheld (missing_for x) ≡ asked_of k (opened_for Read b)
+    pub ask-missing : (x : Refusal) → Err x ≡ (after (Ask k o) b).answer → withheld (missing_for x) ≡ asked_of k (opened_for Read b)
     unfolding call_for
     ask-missing x e = by (opened_for Read b) refl e
       where
-        told : (fs : List (List ℕ)) (t : Bool) → book.Refused x ≡ (picked fs t).answer
+        told : (fs : List (List ℕ)) (t : Bool) → Err x ≡ (picked fs t).answer
             → withheld (missing_for x) ≡ cond t (given (length (frame_for k fs)) (decode (frame_for k fs))) (withheld SettingMissing)
         told fs true e = absurd (done_refused (length (frame_for k fs)) x (sym e))
         told fs false e = let same : x ≡ NotHeld = cc in ap (λ (z : Refusal). withheld (missing_for z)) same
 
-        by : (c : Contents) → opened_for Read b ≡ c → book.Refused x ≡ (on_contents (layout_in b) (ask_on k) o b c).answer → withheld (missing_for x) ≡ asked_of k c
+        by : (c : Contents) → opened_for Read b ≡ c → Err x ≡ (on_contents (layout_in b) (ask_on k) o b c).answer → withheld (missing_for x) ≡ asked_of k c
         by (refused y) w e =
             let same : x ≡ y = cc in
             ap (λ (z : Refusal). withheld (missing_for z)) same ∙ rw (ne_eqb (number_of y) 9 (own-not y (opened_for-own b y w)).0)
@@ -146,7 +146,7 @@ pub record Has (k : ℕ) (c : Contents) (s : Setting) : Type 0 where
   pub said : s.args ≡ (handed (decode (frame_for k frames)))
 
 module _ (k : ℕ) (s : Setting) where
-  pub has : (c : Contents) (n : ℕ) → s ≡ asked_of k c → s.answer ≡ book.Done n → Has k c s
+  pub has : (c : Contents) (n : ℕ) → s ≡ asked_of k c → s.answer ≡ Ok n → Has k c s
   has (refused x) n e d = absurd (done_refused n x (sym d ∙ ap (λ (t : Setting). t.answer) e))
   has (holds fs) n e d = by (held (slot_for k) fs) refl e
     where
@@ -155,35 +155,35 @@ module _ (k : ℕ) (s : Setting) where
       by true h q = record { frames = fs; opens = refl; there = h; said = ap (λ (t : Setting). t.args) q }
       by false h q = absurd (done_refused n SettingMissing (sym d ∙ ap (λ (t : Setting). t.answer) q))
 
-  pub lacks : (fs : List (List ℕ)) (x : Refusal) → s ≡ asked_of k (holds fs) → s.answer ≡ book.Refused x
+  pub lacks : (fs : List (List ℕ)) (x : Refusal) → s ≡ asked_of k (holds fs) → s.answer ≡ Err x
       → (held (slot_for k) fs ≡ false) × (x ≡ SettingMissing)
   lacks fs x e d = by (held (slot_for k) fs) e
     where
       by : (t : Bool) → s ≡ cond t (given (length (frame_for k fs)) (decode (frame_for k fs))) (withheld SettingMissing)
           → (t ≡ false) × (x ≡ SettingMissing)
       by true q = absurd (done_refused (length (frame_for k fs)) x (sym (ap (λ (t : Setting). t.answer) q) ∙ d))
-      by false q = let w : book.Refused x ≡ book.Refused SettingMissing = sym d ∙ ap (λ (t : Setting). t.answer) q in (refl, cc)
+      by false q = let w : ◌≡◌ {A = Answer} (Err x) (Err SettingMissing) = sym d ∙ ap (λ (t : Setting). t.answer) q in (refl, cc)
 
 -- which answer each of the three leads to
 module _ (c : Contents) (x : Refusal) (one : Setting) (a : one ≡ asked_of 1 c) where
-  pub refused-first : one.answer ≡ book.Refused x → Refused x ≡ profiled c
+  pub refused-first : one.answer ≡ Err x → Refused x ≡ profiled c
   unfolding profile_of
   refused-first d = by c a
     where
       by : (c : Contents) → one ≡ asked_of 1 c → Refused x ≡ profiled c
-      by (refused y) e = let w : book.Refused x ≡ book.Refused y = sym d ∙ ap (λ (t : Setting). t.answer) e in let z : x ≡ y = cc in ap (λ (r : Refusal). Refused r) z
+      by (refused y) e = let w : ◌≡◌ {A = Answer} (Err x) (Err y) = sym d ∙ ap (λ (t : Setting). t.answer) e in let z : x ≡ y = cc in ap (λ (r : Refusal). Refused r) z
       by (holds fs) e = let l = lacks 1 one fs x e d in rw l.0 (ap (λ (r : Refusal). Refused r) l.1)
 
-  module _ (n : ℕ) (d : one.answer ≡ book.Done n) (two : Setting) (b : two ≡ asked_of 2 c) where
-    pub refused-second : two.answer ≡ book.Refused x → Refused x ≡ profiled c
+  module _ (n : ℕ) (d : one.answer ≡ Ok n) (two : Setting) (b : two ≡ asked_of 2 c) where
+    pub refused-second : two.answer ≡ Err x → Refused x ≡ profiled c
     unfolding profile_of
     refused-second e =
         let h = has 1 one c n a d in
         let l = lacks 2 two h.frames x (b ∙ ap (asked_of 2) h.opens) e in
         rw (h.opens, h.there, l.0) (ap (λ (r : Refusal). Refused r) l.1)
 
-    module _ (m : ℕ) (e : two.answer ≡ book.Done m) (four : Setting) (g : four ≡ asked_of 4 c) where
-      pub refused-fourth : four.answer ≡ book.Refused x → Refused x ≡ profiled c
+    module _ (m : ℕ) (e : two.answer ≡ Ok m) (four : Setting) (g : four ≡ asked_of 4 c) where
+      pub refused-fourth : four.answer ≡ Err x → Refused x ≡ profiled c
       unfolding profile_of
       refused-fourth f =
           let h = has 1 one c n a d in

@@ -21,9 +21,8 @@ use Rattle.contents.specs.Frames.{flat, held}
 use Rattle.reel.specs.Reel.{reel_of}
 use Rattle.forms.specs.Forms.{other, other_in}
 use Rattle.forms.proofs.Forms.{other-other}
-use Rattle.book.specs.declared.Answer.{Answer}
-use Rattle.book.specs.declared.Answer.TheVariants as book
-use Rattle.book.specs.Plain.{Turn, ask_on, become, clear_on, frame_of, placed, put_on, refuse, remove_on, replay_on, tell, without}
+use Rattle.std.specs.Prelude.{Ok, Err}
+use Rattle.book.specs.Plain.{Turn, ask_on, become, clear_on, frame_of, placed, put_on, refuse, remove_on, replay_on, tell, without, Answer}
 use Rattle.book.specs.History.{Ask, Call, Clear, Make, Put, Remove, Replay, turn}
 use Rattle.book.proofs.Kept.{Kept, tell-frames}
 use Rattle.book.proofs.Laws.{frame-slot, placed-newest, placed-others, without_gone, without-others}
@@ -60,26 +59,26 @@ setting-latest f a = by f (slot_of-length f a) (size_low (slot_of f) a)
 
 -- a call that is not about a slot leaves its latest frame, and so does one that is refused
 pub others-leave : (s : ℕ) (c : Call) (a : Answer) (x : Latest) → is_about s c ≡ false → heard_to s c a x ≡ x
-others-leave s c (book.Refused y) x e = refl
-others-leave s Make (book.Done n) x e = absurd (false≢true (sym e))
-others-leave s (Put f) (book.Done n) x e = by (eqb (slot_of f) s) (eqb (other (slot_of f)) s) e
+others-leave s c (Err y) x e = refl
+others-leave s Make (Ok n) x e = absurd (false≢true (sym e))
+others-leave s (Put f) (Ok n) x e = by (eqb (slot_of f) s) (eqb (other (slot_of f)) s) e
   where
     by : (t u : Bool) → t || u ≡ false → cond t (latest f) (cond u none x) ≡ x
     by true u q = absurd (false≢true (sym q))
     by false true q = absurd (false≢true (sym q))
     by false false q = refl
-others-leave s (Remove k) (book.Done n) x e = rw e
-others-leave s (Ask k o) (book.Done n) x e = refl
-others-leave s Clear (book.Done n) x e = absurd (false≢true (sym e))
-others-leave s (Replay o) (book.Done n) x e = refl
+others-leave s (Remove k) (Ok n) x e = rw e
+others-leave s (Ask k o) (Ok n) x e = refl
+others-leave s Clear (Ok n) x e = absurd (false≢true (sym e))
+others-leave s (Replay o) (Ok n) x e = refl
 
 abbrev pub IsRefused : Answer → Type 0
-IsRefused (book.Done n) = ⊥
-IsRefused (book.Refused x) = Unit
+IsRefused (Ok n) = ⊥
+IsRefused (Err x) = Unit
 
 pub refused-leaves : (s : ℕ) (c : Call) (a : Answer) (x : Latest) → IsRefused a → heard_to s c a x ≡ x
-refused-leaves s c (book.Done n) x r = absurd r
-refused-leaves s c (book.Refused y) x r = refl
+refused-leaves s c (Ok n) x r = absurd r
+refused-leaves s c (Err y) x r = refl
 
 module _ (n s : ℕ) (fs : List (List ℕ)) (K : Kept settings n fs) where
   abbrev is : List (List ℕ) → Latest

@@ -27,8 +27,7 @@ use Rattle.decoder.specs.Decoding.{decode}
 use Rattle.builder.specs.Building.{checked, makes}
 use Rattle.codec.proofs.Laws.{decode-checked}
 use Rattle.table.specs.Table.{settings}
-use Rattle.book.specs.declared.Answer as asked
-use Rattle.book.specs.declared.Answer.TheVariants as book
+use Rattle.std.specs.Prelude.{Err, Ok, Result}
 use Rattle.book.specs.Book.{Read, opened_for}
 use Rattle.book.specs.History.{Ask, Heard, after}
 use Rattle.locker_profile.specs.declared.Answer.{Answer}
@@ -188,9 +187,9 @@ books-agree b c fs gs e f i j k = ap profiled e ∙ others-change-nothing fs gs 
 -- ---- three asks decide
 
 -- the first refusal of three settings, or what the rules say of them
-abbrev unless : asked.Answer → Answer → Answer
-unless (book.Done n) a = a
-unless (book.Refused x) a = Refused x
+abbrev unless : Result ℕ Refusal → Answer → Answer
+unless (Ok n) a = a
+unless (Err x) a = Refused x
 
 abbrev decided : Setting → Setting → Setting → Answer
 decided one two four =
@@ -199,32 +198,32 @@ decided one two four =
 profiled-decided : (c : Contents) → decided (asked_of 1 c) (asked_of 2 c) (asked_of 4 c) ≡ profiled c
 profiled-decided c = first (asked_of 1 c).answer refl
   where
-    fourth : (n : ℕ) → (asked_of 1 c).answer ≡ book.Done n → (m : ℕ) → (asked_of 2 c).answer ≡ book.Done m → (a : asked.Answer) → (asked_of 4 c).answer ≡ a
+    fourth : (n : ℕ) → (asked_of 1 c).answer ≡ Ok n → (m : ℕ) → (asked_of 2 c).answer ≡ Ok m → (a : Result ℕ Refusal) → (asked_of 4 c).answer ≡ a
         → unless a (answered (lora_from (asked_of 1 c).args (asked_of 2 c).args (asked_of 4 c).args)) ≡ profiled c
-    fourth n d m e (book.Done i) f =
+    fourth n d m e (Ok i) f =
         all-judged c (asked_of 1 c) (asked_of 2 c) (asked_of 4 c) (has 1 (asked_of 1 c) c n refl d) (has 2 (asked_of 2 c) c m refl e)
         (has 4 (asked_of 4 c) c i refl f)
-    fourth n d m e (book.Refused x) f = refused-fourth c x (asked_of 1 c) refl n d (asked_of 2 c) refl m e (asked_of 4 c) refl f
+    fourth n d m e (Err x) f = refused-fourth c x (asked_of 1 c) refl n d (asked_of 2 c) refl m e (asked_of 4 c) refl f
 
-    second : (n : ℕ) → (asked_of 1 c).answer ≡ book.Done n → (a : asked.Answer) → (asked_of 2 c).answer ≡ a
+    second : (n : ℕ) → (asked_of 1 c).answer ≡ Ok n → (a : Result ℕ Refusal) → (asked_of 2 c).answer ≡ a
         → unless a (unless (asked_of 4 c).answer (answered (lora_from (asked_of 1 c).args (asked_of 2 c).args (asked_of 4 c).args))) ≡ profiled c
-    second n d (book.Done m) e = fourth n d m e (asked_of 4 c).answer refl
-    second n d (book.Refused x) e = refused-second c x (asked_of 1 c) refl n d (asked_of 2 c) refl e
+    second n d (Ok m) e = fourth n d m e (asked_of 4 c).answer refl
+    second n d (Err x) e = refused-second c x (asked_of 1 c) refl n d (asked_of 2 c) refl e
 
-    first : (a : asked.Answer) → (asked_of 1 c).answer ≡ a
+    first : (a : Result ℕ Refusal) → (asked_of 1 c).answer ≡ a
         → unless a (unless (asked_of 2 c).answer (unless (asked_of 4 c).answer (answered (lora_from (asked_of 1 c).args (asked_of 2 c).args (asked_of 4 c).args))))
         ≡ profiled c
-    first (book.Done n) d = second n d (asked_of 2 c).answer refl
-    first (book.Refused x) d = refused-first c x (asked_of 1 c) refl d
+    first (Ok n) d = second n d (asked_of 2 c).answer refl
+    first (Err x) d = refused-first c x (asked_of 1 c) refl d
 
 -- what is heard of an ask
 abbrev heard_of : List ℕ → ℕ → List ℕ → Heard
 heard_of b k o = record { answer = (after (Ask k o) b).answer; output = (after (Ask k o) b).output }
 
 -- the setting that it tells of
-abbrev told_by : asked.Answer → List ℕ → Setting
-told_by (book.Done m) out = given m (decode (take m out))
-told_by (book.Refused x) out = withheld (missing_for x)
+abbrev told_by : Result ℕ Refusal → List ℕ → Setting
+told_by (Ok m) out = given m (decode (take m out))
+told_by (Err x) out = withheld (missing_for x)
 
 abbrev told : Heard → Setting
 told h = told_by h.answer h.output
@@ -232,9 +231,9 @@ told h = told_by h.answer h.output
 heard-setting : (k : ℕ) → slot_for k < settings → (o : List ℕ) → length o ≡ 12 → (b : List ℕ) → told (heard_of b k o) ≡ asked_of k (opened_for Read b)
 heard-setting k a o n b = by (after (Ask k o) b).answer refl
   where
-    by : (r : asked.Answer) → (after (Ask k o) b).answer ≡ r → told_by r (after (Ask k o) b).output ≡ asked_of k (opened_for Read b)
-    by (book.Done m) e = ask-held k a o n b m (after (Ask k o) b).output (sym e) refl
-    by (book.Refused x) e = ask-missing k a o n b x (sym e)
+    by : (r : Result ℕ Refusal) → (after (Ask k o) b).answer ≡ r → told_by r (after (Ask k o) b).output ≡ asked_of k (opened_for Read b)
+    by (Ok m) e = ask-held k a o n b m (after (Ask k o) b).output (sym e) refl
+    by (Err x) e = ask-missing k a o n b x (sym e)
 
 -- TWO BOOKS THAT ANSWER THE THREE ASKS ALIKE GET ONE ANSWER, whatever else they hold, and refused ones too
 pub asks-decide : (b c o : List ℕ) → length o ≡ 12 → ((k : ℕ) → (k ≡ 1) ⊎ ((k ≡ 2) ⊎ (k ≡ 4)) → heard_of b k o ≡ heard_of c k o) → answer_for b ≡ answer_for c

@@ -20,10 +20,9 @@ use Rattle.table.specs.Table.{settings}
 use Rattle.settings.specs.Settings.{slot_for, slot_of}
 use Rattle.contents.specs.Contents.{longest, room_of, start}
 use Rattle.owners.specs.Owners.{OwnerTable, owns, owner_table, quota_of}
-use Rattle.book.specs.declared.Answer.{Answer}
-use Rattle.book.specs.declared.Answer.TheVariants as book
+use Rattle.std.specs.Prelude.{Ok, Err}
 use Rattle.book.specs.Book.{Read, made, ours}
-use Rattle.book.specs.Plain.{Turn, frame_of, refuse}
+use Rattle.book.specs.Plain.{Turn, frame_of, refuse, Answer}
 use Rattle.book.specs.History.{BytesRun, Call, Heard, Make, after, on_bytes, on_list}
 use Rattle.book.specs.History as whole
 use Rattle.book.proofs.Kept.{Kept, empty-kept}
@@ -62,7 +61,7 @@ module _ (n s : ℕ) (t : OwnerTable) (fs : List (List ℕ)) (K : Kept settings 
       go false e = sym (ap as_latest (frame-chosen others s (ap not e) fs))
 
   -- a side's call that its own list accepts
-  edited-latest : (w : ℕ) (c : Request) (o : List ℕ) (q m : ℕ) (gs : List (List ℕ)) → (step_of c o q gs).answer ≡ book.Done m
+  edited-latest : (w : ℕ) (c : Request) (o : List ℕ) (q m : ℕ) (gs : List (List ℕ)) → (step_of c o q gs).answer ≡ Ok m
       → side_to t w s c (is fs) ≡ is (edited t w c fs)
   edited-latest w (Put f) o q m gs e = put-latest n s fs K f (put-accepted f o q gs m e).0
   edited-latest w (Remove k) o q m gs e = remove-latest n s fs K k
@@ -84,8 +83,8 @@ module _ (n s : ℕ) (t : OwnerTable) (fs : List (List ℕ)) (K : Kept settings 
       all = edited t c.who c.what fs
 
       accepted : (a : Answer) → step.answer ≡ a → event_to t s (Side c) a (is fs) ≡ is (if_accepted a all fs)
-      accepted (book.Done m) e = edited-latest c.who c.what c.output (quota_of t c.who) m gs e
-      accepted (book.Refused x) e = refl
+      accepted (Ok m) e = edited-latest c.who c.what c.output (quota_of t c.who) m gs e
+      accepted (Err x) e = refl
 
       turned : Bool → Bool → Turn
       turned x y = cond x (amid (cond y (refuse OtherSide c.output gs) step) all fs) (refuse OwnersWrong c.output fs)
@@ -115,20 +114,20 @@ module _ (n : ℕ) (t : OwnerTable) where
 module _ (t : OwnerTable) (s : ℕ) where
   event-leaves : (e : Event) (a : Answer) (x : Latest) → is_event_about t s e ≡ false → event_to t s e a x ≡ x
   event-leaves (Whole c) a x e = others-leave s c a x e
-  event-leaves (Side c) (book.Refused y) x e = refl
-  event-leaves (Side c) (book.Done n) x e = side c.what e
+  event-leaves (Side c) (Err y) x e = refl
+  event-leaves (Side c) (Ok n) x e = side c.what e
     where
       side : (r : Request) → is_side_about t c.who s r ≡ false → side_to t c.who s r x ≡ x
-      side (Put f) q = others-leave s (whole.Put f) (book.Done 0) x q
-      side (Remove k) q = others-leave s (whole.Remove k) (book.Done 0) x q
+      side (Put f) q = others-leave s (whole.Put f) (Ok 0) x q
+      side (Remove k) q = others-leave s (whole.Remove k) (Ok 0) x q
       side (Ask k) q = refl
       side Clear q = rw q
       side Replay q = refl
 
   refused-event : (e : Event) (a : Answer) (x : Latest) → IsRefused a → event_to t s e a x ≡ x
   refused-event (Whole c) a x r = refused-leaves s c a x r
-  refused-event (Side c) (book.Refused y) x r = refl
-  refused-event (Side c) (book.Done n) x r = absurd r
+  refused-event (Side c) (Err y) x r = refl
+  refused-event (Side c) (Ok n) x r = absurd r
 
   -- each of these events was refused, or is not about the slot
   abbrev pub Leaves : List Event → List Heard → Type 0
@@ -154,7 +153,7 @@ module _ (t : OwnerTable) (s : ℕ) where
   latest-append (e ∷ es) ds b x = latest-append es ds (after_event t e b).bytes (event_to t s e (after_event t e b).answer x)
 
   -- a put of a frame of the slot, once it is accepted, is the latest
-  put_is : (f : List ℕ) → slot_of f ≡ s → (e : Event) → IsPut f e → (x : Latest) → event_to t s e (book.Done 0) x ≡ latest f
+  put_is : (f : List ℕ) → slot_of f ≡ s → (e : Event) → IsPut f e → (x : Latest) → event_to t s e (Ok 0) x ≡ latest f
   put_is f o e by_whole x = rw (eq-eqb (slot_of f) s o)
   put_is f o e (by_side w d) x = rw (eq-eqb (slot_of f) s o)
 
@@ -198,7 +197,7 @@ module _ (t : OwnerTable) (b : List ℕ) (low : start ours.slots ≤ length b) (
     pub events : es ≡ before ++ (put ∷ behind)
     pub puts : IsPut f put
     pub own : slot_of f ≡ slot_for k
-    pub accepted : (after_event t put (on_bytes (after_event t) before (made ours b).bytes).bytes).answer ≡ book.Done 0
+    pub accepted : (after_event t put (on_bytes (after_event t) before (made ours b).bytes).bytes).answer ≡ Ok 0
     pub since : Leaves t (slot_for k) behind
         (on_bytes (after_event t) behind (after_event t put (on_bytes (after_event t) before (made ours b).bytes).bytes).bytes).heard
 
@@ -230,8 +229,8 @@ module _ (t : OwnerTable) where
 
 -- a make leaves no frame of any slot
 make-none : (s : ℕ) (a : Answer) → heard_to s Make a none ≡ none
-make-none s (book.Done n) = refl
-make-none s (book.Refused x) = refl
+make-none s (Ok n) = refl
+make-none s (Err x) = refl
 
 module _ (b : List ℕ) (low : start ours.slots ≤ length b) (high : length b ≤ longest) (cs : List Call) where
   -- a kind's latest accepted frame, by the calls and what was heard of them

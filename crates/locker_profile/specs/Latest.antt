@@ -1,12 +1,11 @@
 -- The latest accepted frame of a setting, by nothing but the calls and what was heard of each: no book and no list (REFERENCE, "Book"). And the
 -- profile by three of them (REFERENCE, "Locker profile").
 -- Assumes nothing.
-use Rattle.std.specs.Prelude.{ℕ, Bool, cond, false, true, ◌||◌, List, [], ◌∷◌, eqb}
+use Rattle.std.specs.Prelude.{ℕ, Bool, cond, false, true, ◌||◌, List, [], ◌∷◌, eqb, Ok, Err}
 use Rattle.refusal.specs.declared.Refusal.TheVariants.{SettingMissing}
 use Rattle.settings.specs.Settings.{slot_for, slot_of}
 use Rattle.forms.specs.Forms.{other}
-use Rattle.book.specs.declared.Answer.{Answer}
-use Rattle.book.specs.declared.Answer.TheVariants.{Done, Refused}
+use Rattle.book.specs.Plain.{Answer}
 use Rattle.book.specs.History.{Ask, Call, Clear, Heard, Make, Put, Remove, Replay}
 use Rattle.locker_profile.specs.declared.Answer as profile
 use Rattle.locker_profile.specs.declared.Answer.TheVariants as told
@@ -38,8 +37,8 @@ is_about s (Replay o) = false
 
 -- a refused call leaves what was
 abbrev pub heard_to : ℕ → Call → Answer → Latest → Latest
-heard_to s c (Done n) x = done_to s c x
-heard_to s c (Refused why) x = x
+heard_to s c (Ok n) x = done_to s c x
+heard_to s c (Err why) x = x
 
 -- after some calls, each with what was heard
 unfoldable pub latest_after : ℕ → List Call → List Heard → Latest → Latest

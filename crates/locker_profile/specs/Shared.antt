@@ -1,10 +1,9 @@
 -- The latest accepted frame of a setting in a book that two sides share, by nothing but the events and what was heard of each (REFERENCE, "Two
 -- sides"). What a call of the whole book leaves is said in Latest.antt.
 -- Assumes nothing.
-use Rattle.std.specs.Prelude.{ℕ, Bool, cond, false, List, [], ◌∷◌}
+use Rattle.std.specs.Prelude.{ℕ, Bool, cond, false, List, [], ◌∷◌, Ok, Err}
 use Rattle.owners.specs.Owners.{OwnerTable, owns}
-use Rattle.book.specs.declared.Answer.{Answer}
-use Rattle.book.specs.declared.Answer.TheVariants.{Done, Refused}
+use Rattle.book.specs.Plain.{Answer}
 use Rattle.book.specs.History.{Call, Heard}
 use Rattle.book.specs.History as whole
 use Rattle.sides.specs.Calls.{Ask, Clear, Put, Remove, Replay, Request}
@@ -34,8 +33,8 @@ is_event_about t s (Whole c) = is_about s c
 
 -- what an event leaves that got this answer: a refused one leaves what was
 abbrev pub event_to : OwnerTable → ℕ → Event → Answer → Latest → Latest
-event_to t s (Side c) (Done n) x = side_to t c.who s c.what x
-event_to t s (Side c) (Refused why) x = x
+event_to t s (Side c) (Ok n) x = side_to t c.who s c.what x
+event_to t s (Side c) (Err why) x = x
 event_to t s (Whole c) a x = heard_to s c a x
 
 -- after some events, each with what was heard

@@ -1,7 +1,7 @@
 -- What the source hands from step to step on its way to the answer of specs/Profile.antt: a setting's arguments as the decoder hands them over,
 -- nine numbers of which those that the kind does not have are 0.
 -- Assumes nothing.
-use Rattle.std.specs.Prelude.{ℕ, ◌-◌, List, ◌++◌, cond, eqb, length, replicate}
+use Rattle.std.specs.Prelude.{ℕ, ◌-◌, List, ◌++◌, cond, eqb, length, replicate, Ok, Err}
 use Rattle.refusal.specs.declared.Refusal.{Refusal}
 use Rattle.refusal.specs.declared.Refusal.TheVariants.{SettingMissing}
 use Rattle.refusal.specs.Numbers.{number_of}
@@ -9,7 +9,6 @@ use Rattle.decoder.specs.Decoding.{Reading, decode, reading, refuses}
 use Rattle.settings.specs.Settings.{slot_for}
 use Rattle.contents.specs.Frames.{held}
 use Rattle.contents.specs.Contents.{Contents, holds, refused}
-use Rattle.book.specs.declared.Answer.TheVariants.{Done, Refused}
 use Rattle.locker_profile.specs.declared.Setting.{Setting}
 use Rattle.locker_profile.specs.Profile.{frame_for}
 
@@ -19,7 +18,7 @@ missing_for x = cond (eqb (number_of x) 9) SettingMissing x
 
 -- a setting that cannot be had has no arguments
 abbrev pub withheld : Refusal → Setting
-withheld x = record { answer = Refused x; args = replicate 9 0 }
+withheld x = record { answer = Err x; args = replicate 9 0 }
 
 -- the nine numbers that the decoder hands over; none where it refuses
 abbrev pub handed : Reading → List ℕ
@@ -28,7 +27,7 @@ handed (refuses x) = replicate 9 0
 
 -- one that is held, in a frame of n bytes
 abbrev pub given : ℕ → Reading → Setting
-given n r = record { answer = Done n; args = handed r }
+given n r = record { answer = Ok n; args = handed r }
 
 -- what a book, as the calls find it, says of a kind
 abbrev pub asked_of : ℕ → Contents → Setting

@@ -73,12 +73,12 @@ fn asked(book: &[u8], kind: u64) -> Setting
     let mut frame = [0u8; 12];
     let answer = book::ask(book, kind, &mut frame);
     match answer {
-        book::Answer::Done(n) => {
+        Ok(n) => {
             let args = arguments_of(&frame[0..n]);
             Setting { answer, args }
         }
-        book::Answer::Refused(why) => Setting {
-            answer: book::Answer::Refused(missing(why)),
+        Err(why) => Setting {
+            answer: Err(missing(why)),
             args: [0u64; 9],
         },
     }
@@ -206,17 +206,17 @@ pub fn check(book: &[u8]) -> Answer
 {
     let modulation = asked(book, 1);
     let first = modulation.answer;
-    if let book::Answer::Refused(why) = first {
+    if let Err(why) = first {
         return Answer::Refused(why);
     }
     let packet = asked(book, 2);
     let second = packet.answer;
-    if let book::Answer::Refused(why) = second {
+    if let Err(why) = second {
         return Answer::Refused(why);
     }
     let sync = asked(book, 4);
     let fourth = sync.answer;
-    if let book::Answer::Refused(why) = fourth {
+    if let Err(why) = fourth {
         return Answer::Refused(why);
     }
     judge(lora_of(modulation, packet, sync))

@@ -8,51 +8,33 @@ ghost use Rattle.owners.specs.Owners.{each_side, is_side, joined, owner_of, owne
 
 use settings::slot_for;
 
-fn byte_to_u64(x: u8) -> u64
-    ensures { result ≡ x }
-{
-    x as u64
-}
-
 // Whether a number names a side.
 pub fn is_side(w: u64) -> bool
     ensures { result ≡ is_side w }
 {
-    if w == 1 {
-        return true;
-    }
-    w == 2
+    w == 1 || w == 2
 }
 
 // A side's quota, of both.
 pub fn quota_of(quota1: u64, quota2: u64, side: u64) -> u64
     ensures { result ≡ quota_of (owner_table [] quota1 quota2) side }
 {
-    if side == 1 {
-        return quota1;
-    }
-    quota2
+    if side == 1 { quota1 } else { quota2 }
 }
 
 // The owner of a slot; 0 where the table has no entry for it.
 pub fn owner_of(owners: &[u8], slot: usize) -> u64
     ensures { result ≡ owner_of owners.now slot }
 {
-    if slot < owners.len() {
-        return byte_to_u64(owners[slot]);
-    }
-    0
+    frame::byte_at(owners, slot) as u64
 }
 
 // Whether every entry is a side.
 fn each_side(owners: &[u8]) -> bool
     ensures { result ≡ each_side owners.now }
 {
-    let mut i: usize = 0;
-    while i < owners.len() {
-        if is_side(byte_to_u64(owners[i])) {
-            i += 1;
-        } else {
+    for owner in owners {
+        if !is_side(*owner as u64) {
             return false;
         }
     }
@@ -63,12 +45,10 @@ fn each_side(owners: &[u8]) -> bool
 fn spare_first(owners: &[u8]) -> bool
     ensures { result ≡ spare_first owners.now }
 {
-    let mut i: usize = table::SETTINGS;
-    while i < owners.len() {
+    for i in table::SETTINGS..owners.len() {
         if owners[i] != 1 {
             return false;
         }
-        i += 1;
     }
     true
 }
@@ -85,12 +65,10 @@ fn is_joined(owners: &[u8]) -> bool
     ensures { result ≡ joined owners.now }
 {
     let forms = table::forms();
-    let mut i: usize = 0;
-    while i < table::PAIRS {
-        if is_split(owners, forms[i][0], forms[i][1]) {
+    for [short, long] in forms {
+        if is_split(owners, short, long) {
             return false;
         }
-        i += 1;
     }
     true
 }
@@ -103,17 +81,17 @@ pub fn is_right(owners: &[u8], slots: usize, room: u64, quota1: u64, quota2: u64
     if owners.len() != slots {
         return false;
     }
-    if each_side(owners) {
-        if spare_first(owners) {
-            if is_joined(owners) {
-                if quota1 <= room {
-                    return quota2 <= room - quota1;
-                }
-                return false;
-            }
-            return false;
-        }
+    if !each_side(owners) {
         return false;
     }
-    false
+    if !spare_first(owners) {
+        return false;
+    }
+    if !is_joined(owners) {
+        return false;
+    }
+    if quota1 > room {
+        return false;
+    }
+    quota2 <= room - quota1
 }

@@ -36,7 +36,7 @@ fn say_frames(front: &Front, reel: &[u8], line: &mut [u8]) -> Result<(), Closed>
 fn say_book(front: &Front, book: &[u8], line: &mut [u8]) -> Result<(), Closed> {
     let mut reel = [0u8; book::LONGEST_REEL];
     let answer = book::replay(book, &mut reel);
-    let Answer::Done(n) = answer else {
+    let Ok(n) = answer else {
         return Ok(());
     };
     if reel.len() < n {
@@ -66,7 +66,7 @@ fn say_report(
     let n = report::numbers(day, text);
     front.say(&text[0..n])?;
     say_book(front, book, text)?;
-    let Answer::Refused(why) = answer else {
+    let Err(why) = answer else {
         return Ok(());
     };
     let m = report::stopped(why.place() as u64, text);
@@ -79,7 +79,7 @@ fn say_report(
 fn used_of(answer: Answer, n: usize) -> usize
     ensures { result ≤ n }
 {
-    let Answer::Done(used) = answer else {
+    let Ok(used) = answer else {
         return n;
     };
     if used <= n { used } else { n }
@@ -120,7 +120,7 @@ fn play<R: Env + Files<File = File>>(
         return Ok(());
     };
     let name = &arg[..input.name];
-    book::make(book);
+    let _made = book::make(book);
     match run(front, &input, s, book) {
         Ok(cursor) => say_report(front, name, cursor, book, text),
         Err(why) => {

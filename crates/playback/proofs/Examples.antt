@@ -23,9 +23,8 @@ use Rattle.contents.specs.Contents.{word_at}
 use Rattle.contents.specs.Frames.{flat, held}
 use Rattle.decoder.specs.Decoding.{stray, lacking, judged, known, sought, answered, decode}
 use Rattle.forms.specs.Forms.{other, other_in}
-use Rattle.book.specs.declared.Answer.{Answer}
-use Rattle.book.specs.declared.Answer.TheVariants.{Done, Refused}
-use Rattle.book.specs.Plain.{placed, put_on, seat, swap_in}
+use Rattle.std.specs.Prelude.{Ok, Err}
+use Rattle.book.specs.Plain.{placed, put_on, seat, swap_in, Answer}
 use Rattle.book.specs.Book.{made}
 use Rattle.cmd_lora.specs.declared.rsp.LoraRxStatsRsp.{LoraRxStatsRsp}
 use Rattle.cmd_lora.specs.declared.rsp.LoraPacketStatusRsp.{LoraPacketStatusRsp}
@@ -107,8 +106,8 @@ bank-day = refl
 
 -- its place, told of the whole trace and by the cursor of a pass over it
 bank-fault :
-    ((plays bank (replicate 231 0)).played.answer ≡ Refused (TraceFault 96))
-    × ((ended (record { stage = (pass_from false 169 Header bank morning).stage; day = fresh })).answer ≡ Refused (TraceFault 96))
+    ((plays bank (replicate 231 0)).played.answer ≡ Err (TraceFault 96))
+    × ((ended (record { stage = (pass_from false 169 Header bank morning).stage; day = fresh })).answer ≡ Err (TraceFault 96))
 unfolding plays made run_in traced headed records_from record_at fits word_at pass_from pass_header pass_gap pass_records plus
 bank-fault = (refl, refl)
 
@@ -150,25 +149,25 @@ expected (c ∷ cs) = c.answer ∷ expected cs
 abbrev cases : List Case
 cases =
     -- a header that is cut
-    given [] (Refused (TraceFault 0))
-    ∷ given (0x00 ∷ 0x00 ∷ 0x00 ∷ []) (Refused (TraceFault 0))
+    given [] (Err (TraceFault 0))
+    ∷ given (0x00 ∷ 0x00 ∷ 0x00 ∷ []) (Err (TraceFault 0))
     -- no record, and a first offset of 4, of 3 and past the end
-    ∷ given (0x00 ∷ 0x00 ∷ 0x00 ∷ 0x04 ∷ []) (Done 0)
-    ∷ given (0x00 ∷ 0x00 ∷ 0x00 ∷ 0x03 ∷ []) (Refused (TraceFault 0))
-    ∷ given (0x00 ∷ 0x00 ∷ 0x01 ∷ 0x00 ∷ []) (Done 0)
+    ∷ given (0x00 ∷ 0x00 ∷ 0x00 ∷ 0x04 ∷ []) (Ok 0)
+    ∷ given (0x00 ∷ 0x00 ∷ 0x00 ∷ 0x03 ∷ []) (Err (TraceFault 0))
+    ∷ given (0x00 ∷ 0x00 ∷ 0x01 ∷ 0x00 ∷ []) (Ok 0)
     -- one record, past the end
-    ∷ given (0x00 ∷ 0x01 ∷ 0x01 ∷ 0x00 ∷ []) (Refused (TraceFault 256))
+    ∷ given (0x00 ∷ 0x01 ∷ 0x01 ∷ 0x00 ∷ []) (Err (TraceFault 256))
     -- one of direction 0, 1 and 2, and without its length
-    ∷ given (0x00 ∷ 0x01 ∷ 0x00 ∷ 0x04 ∷ 0x00 ∷ 0x00 ∷ []) (Done 0)
-    ∷ given (0x00 ∷ 0x01 ∷ 0x00 ∷ 0x04 ∷ 0x01 ∷ 0x00 ∷ []) (Done 0)
-    ∷ given (0x00 ∷ 0x01 ∷ 0x00 ∷ 0x04 ∷ 0x02 ∷ 0x00 ∷ []) (Refused (TraceFault 4))
-    ∷ given (0x00 ∷ 0x01 ∷ 0x00 ∷ 0x04 ∷ 0x01 ∷ []) (Refused (TraceFault 4))
+    ∷ given (0x00 ∷ 0x01 ∷ 0x00 ∷ 0x04 ∷ 0x00 ∷ 0x00 ∷ []) (Ok 0)
+    ∷ given (0x00 ∷ 0x01 ∷ 0x00 ∷ 0x04 ∷ 0x01 ∷ 0x00 ∷ []) (Ok 0)
+    ∷ given (0x00 ∷ 0x01 ∷ 0x00 ∷ 0x04 ∷ 0x02 ∷ 0x00 ∷ []) (Err (TraceFault 4))
+    ∷ given (0x00 ∷ 0x01 ∷ 0x00 ∷ 0x04 ∷ 0x01 ∷ []) (Err (TraceFault 4))
     -- the same behind a gap of a byte, and without its last byte
-    ∷ given (0x00 ∷ 0x01 ∷ 0x00 ∷ 0x05 ∷ 0x02 ∷ 0x01 ∷ 0x01 ∷ 0xFF ∷ []) (Done 0)
-    ∷ given (0x00 ∷ 0x01 ∷ 0x00 ∷ 0x05 ∷ 0x02 ∷ 0x01 ∷ 0x01 ∷ []) (Refused (TraceFault 5))
+    ∷ given (0x00 ∷ 0x01 ∷ 0x00 ∷ 0x05 ∷ 0x02 ∷ 0x01 ∷ 0x01 ∷ 0xFF ∷ []) (Ok 0)
+    ∷ given (0x00 ∷ 0x01 ∷ 0x00 ∷ 0x05 ∷ 0x02 ∷ 0x01 ∷ 0x01 ∷ []) (Err (TraceFault 5))
     -- two records, of which the second has direction 2; and where one is counted
-    ∷ given (0x00 ∷ 0x02 ∷ 0x00 ∷ 0x04 ∷ 0x01 ∷ 0x01 ∷ 0xFF ∷ 0x02 ∷ 0x00 ∷ []) (Refused (TraceFault 7))
-    ∷ given (0x00 ∷ 0x01 ∷ 0x00 ∷ 0x04 ∷ 0x01 ∷ 0x01 ∷ 0xFF ∷ 0x02 ∷ 0x00 ∷ []) (Done 0)
+    ∷ given (0x00 ∷ 0x02 ∷ 0x00 ∷ 0x04 ∷ 0x01 ∷ 0x01 ∷ 0xFF ∷ 0x02 ∷ 0x00 ∷ []) (Err (TraceFault 7))
+    ∷ given (0x00 ∷ 0x01 ∷ 0x00 ∷ 0x04 ∷ 0x01 ∷ 0x01 ∷ 0xFF ∷ 0x02 ∷ 0x00 ∷ []) (Ok 0)
     ∷ []
 
 trace-faults : answers cases ≡ expected cases

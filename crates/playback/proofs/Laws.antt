@@ -32,8 +32,8 @@ use Rattle.cmd_lora.specs.Responses.{lora_packet_status_rsp, lora_rx_stats_rsp}
 use Rattle.cmd_fsk.specs.Responses.{fsk_packet_status_rsp, fsk_rx_stats_rsp}
 use Rattle.contents.specs.Contents.{image, longest, room_of, start, word_at}
 use Rattle.contents.proofs.Judged.{Bytes}
-use Rattle.book.specs.declared.Answer.{Answer}
-use Rattle.book.specs.declared.Answer.TheVariants.{Done, Refused}
+use Rattle.book.specs.Plain.{Answer}
+use Rattle.std.specs.Prelude.{Ok, Err}
 use Rattle.book.specs.Book.{made, ours}
 use Rattle.book.specs.Book as Call
 use Rattle.book.specs.History.{Make, after, on_bytes}
@@ -62,8 +62,8 @@ unfolding plays run_in
 same-records b t u e = go (after Make b).answer
   where
     go : (a : Answer) → on_made t b a ≡ on_made u b a
-    go (Refused x) = refl
-    go (Done n) = ap (λ (f : Found). shown (length b) (run_on (room_of ours (length b)) f morning)) e
+    go (Err x) = refl
+    go (Ok n) = ap (λ (f : Found). shown (length b) (run_on (room_of ours (length b)) f morning)) e
 
 pub play-behind : (b t x : List ℕ) → (traced t).stop ≡ none → plays (t ++ x) b ≡ plays t b
 play-behind b t x e = same-records b (t ++ x) t (traced-behind t x e)
@@ -75,15 +75,15 @@ play-between b t u l m e f = same-records b t u (traced-between t u l m e f)
 
 -- a buffer that is too short or too long
 pub play-eleven : (t b : List ℕ) → (start ours.slots ≤ length b → longest < length b)
-    → plays t b ≡ record { played = record { answer = Refused BufferSize; day = fresh }; bytes = b }
+    → plays t b ≡ record { played = record { answer = Err BufferSize; day = fresh }; bytes = b }
 unfolding plays made
 play-eleven t b h = go (leb (start ours.slots) (length b)) refl (leb (length b) longest) refl
   where
     go : (u : Bool) → leb (start ours.slots) (length b) ≡ u → (v : Bool) → leb (length b) longest ≡ v
         → on_made t b (cond {A = Call.Outcome} u
-        (cond v (record { answer = Done 0; output = []; bytes = image ours (length b) [] }) (record { answer = Refused BufferSize; output = []; bytes = b }))
-        (record { answer = Refused BufferSize; output = []; bytes = b })).answer
-        ≡ record { played = record { answer = Refused BufferSize; day = fresh }; bytes = b }
+        (cond v (record { answer = Ok 0; output = []; bytes = image ours (length b) [] }) (record { answer = Err BufferSize; output = []; bytes = b }))
+        (record { answer = Err BufferSize; output = []; bytes = b })).answer
+        ≡ record { played = record { answer = Err BufferSize; day = fresh }; bytes = b }
     go true p true q = absurd (let k : longest < length b = h (leb-true _ _ p) in omega (arith, k, leb-true (length b) longest q))
     go true p false q = refl
     go false p v q = refl
@@ -105,31 +105,31 @@ module _ (b : List ℕ) (low : start ours.slots ≤ length b) (high : length b �
     unfolding run_in
     play-answer = ap (λ (o : Outcome). o.played.answer) (play-run t)
 
-    pub fault-play : (p : ℕ) → (traced t).stop ≡ some p → (plays t b).played.answer ≡ Refused (TraceFault p)
+    pub fault-play : (p : ℕ) → (traced t).stop ≡ some p → (plays t b).played.answer ≡ Err (TraceFault p)
     fault-play p e = play-answer ∙ ap answer_of e
 
-    pub play-fault : (p : ℕ) → (plays t b).played.answer ≡ Refused (TraceFault p) → (traced t).stop ≡ some p
+    pub play-fault : (p : ℕ) → (plays t b).played.answer ≡ Err (TraceFault p) → (traced t).stop ≡ some p
     play-fault p e = at (traced t).stop (sym play-answer ∙ e)
       where
-        at : (o : Option ℕ) → answer_of o ≡ Refused (TraceFault p) → o ≡ some p
+        at : (o : Option ℕ) → answer_of o ≡ Err (TraceFault p) → o ≡ some p
         at none q = absurd (done_refused 0 (TraceFault p) q)
         at (some n) q = let z : n ≡ p = cc in ap some z
 
-    pub done-play : (traced t).stop ≡ none → (plays t b).played.answer ≡ Done 0
+    pub done-play : (traced t).stop ≡ none → (plays t b).played.answer ≡ Ok 0
     done-play e = play-answer ∙ ap answer_of e
 
-    pub play-done : (plays t b).played.answer ≡ Done 0 → (traced t).stop ≡ none
+    pub play-done : (plays t b).played.answer ≡ Ok 0 → (traced t).stop ≡ none
     play-done e = nowhere (traced t).stop (sym play-answer ∙ e)
       where
-        nowhere : (o : Option ℕ) → answer_of o ≡ Done 0 → o ≡ none
+        nowhere : (o : Option ℕ) → answer_of o ≡ Ok 0 → o ≡ none
         nowhere none q = refl
         nowhere (some n) q = absurd (done_refused 0 _ (sym q))
 
     -- 11 is not given here
-    play-sized : (plays t b).played.answer ≡ Refused BufferSize → ⊥
+    play-sized : (plays t b).played.answer ≡ Err BufferSize → ⊥
     play-sized e = by (traced t).stop (sym play-answer ∙ e)
       where
-        by : (o : Option ℕ) → answer_of o ≡ Refused BufferSize → ⊥
+        by : (o : Option ℕ) → answer_of o ≡ Err BufferSize → ⊥
         by none q = done_refused 0 BufferSize q
         by (some n) q = let z : ◌≡◌ {A = ℕ} 0 1 = cc in omega arith
 
@@ -149,12 +149,12 @@ module _ (b : List ℕ) (low : start ours.slots ≤ length b) (high : length b �
 
     -- the same trace with the number of the records before the fault in its header is played without a refusal, to the same day and book
     pub play-stopped : let n : ℕ = length (traced t).records in
-        plays (recounted n t) b ≡ record { played = record { answer = Done 0; day = (plays t b).played.day }; bytes = (plays t b).bytes }
+        plays (recounted n t) b ≡ record { played = record { answer = Ok 0; day = (plays t b).played.day }; bytes = (plays t b).bytes }
     play-stopped =
         let n : ℕ = length (traced t).records in
         play-run (recounted n t)
         ∙ ap (shown (length b)) (run-stopped t h room)
-        ∙ ap (λ (o : Outcome). record { played = record { answer = Done 0; day = o.played.day }; bytes = o.bytes }) (sym (play-run t))
+        ∙ ap (λ (o : Outcome). record { played = record { answer = Ok 0; day = o.played.day }; bytes = o.bytes }) (sym (play-run t))
 
   pub play-headless : (t : List ℕ) → headed t ≡ false → plays t b ≡ shown (length b) (ran morning (some 0))
   play-headless t h = play-run t ∙ ap (shown (length b)) (run-headless t room h)
@@ -234,15 +234,15 @@ module _ (b : List ℕ) (low : start ours.slots ≤ length b) (high : length b �
 
 -- ---- refusals, whatever the buffer
 
-pub play-size : (t b : List ℕ) → ((plays t b).played.answer ≡ Refused BufferSize) ↔ (start ours.slots ≤ length b → longest < length b)
+pub play-size : (t b : List ℕ) → ((plays t b).played.answer ≡ Err BufferSize) ↔ (start ours.slots ≤ length b → longest < length b)
 play-size t b =
     ((λ e low. over low (leb (length b) longest) refl e), λ h. ap (λ (o : Outcome). o.played.answer) (play-eleven t b h))
   where
-    over : start ours.slots ≤ length b → (x : Bool) → leb (length b) longest ≡ x → (plays t b).played.answer ≡ Refused BufferSize → longest < length b
+    over : start ours.slots ≤ length b → (x : Bool) → leb (length b) longest ≡ x → (plays t b).played.answer ≡ Err BufferSize → longest < length b
     over low true q e = absurd (play-sized b low (leb-true (length b) longest q) t e)
     over low false q e = leb-false (length b) longest q
 
-pub play-keeps : (t b : List ℕ) (x : Refusal) → (plays t b).played.answer ≡ Refused x
+pub play-keeps : (t b : List ℕ) (x : Refusal) → (plays t b).played.answer ≡ Err x
     → ((x ≡ BufferSize) × ((plays t b).bytes ≡ b)) ⊎ ((p : ℕ) × (x ≡ TraceFault p))
 unfolding plays made
 play-keeps t b x e = go (leb (start ours.slots) (length b)) (leb (length b) longest) e
@@ -250,14 +250,14 @@ play-keeps t b x e = go (leb (start ours.slots) (length b)) (leb (length b) long
     answer : Bool → Bool → Answer
     answer u v =
         (cond {A = Call.Outcome} u
-        (cond v (record { answer = Done 0; output = []; bytes = image ours (length b) [] }) (record { answer = Refused BufferSize; output = []; bytes = b }))
-        (record { answer = Refused BufferSize; output = []; bytes = b })).answer
+        (cond v (record { answer = Ok 0; output = []; bytes = image ours (length b) [] }) (record { answer = Err BufferSize; output = []; bytes = b }))
+        (record { answer = Err BufferSize; output = []; bytes = b })).answer
 
-    by : (o : Option ℕ) → answer_of o ≡ Refused x → (p : ℕ) × (x ≡ TraceFault p)
+    by : (o : Option ℕ) → answer_of o ≡ Err x → (p : ℕ) × (x ≡ TraceFault p)
     by none q = absurd (done_refused 0 x q)
     by (some p) q = (p, cc)
 
-    go : (u v : Bool) → (on_made t b (answer u v)).played.answer ≡ Refused x
+    go : (u v : Bool) → (on_made t b (answer u v)).played.answer ≡ Err x
         → ((x ≡ BufferSize) × ((on_made t b (answer u v)).bytes ≡ b)) ⊎ ((p : ℕ) × (x ≡ TraceFault p))
     go true true q = inr (by (run_in (room_of ours (length b)) t).stop q)
     go true false q = inl (cc, refl)

@@ -21,8 +21,8 @@ use Rattle.refusal.specs.declared.Refusal.TheVariants.{TraceFault}
 use Rattle.contents.specs.Contents.{Contents, holds, refused, image, longest, room_of, start}
 use Rattle.contents.proofs.Judged.{Bytes}
 use Rattle.contents.proofs.Written.{image-length}
-use Rattle.book.specs.declared.Answer.{Answer}
-use Rattle.book.specs.declared.Answer.TheVariants.{Done, Refused}
+use Rattle.book.specs.Plain.{Answer}
+use Rattle.std.specs.Prelude.{Ok, Err}
 use Rattle.book.specs.Book.{Edit, made, opened_for, ours, room_in}
 use Rattle.book.specs.History.{Make, after}
 use Rattle.book.proofs.Calls.{done_refused}
@@ -48,8 +48,8 @@ use Rattle.playback.proofs.Laws.{play-run}
 
 -- the bytes that a pass used
 abbrev pub used_by : Answer → ℕ
-used_by (Done n) = n
-used_by (Refused x) = 0
+used_by (Ok n) = n
+used_by (Err x) = 0
 
 -- Fed c b s x y: passes that begin where c and the book b stand, with s to come, end with x and the book y. Each takes any part of what is left,
 -- and what it does not use comes again; that no more follows is said only of a part that is all that is left. They may end as soon as the
@@ -62,10 +62,10 @@ pub data Fed : Cursor → List ℕ → List ℕ → Played → List ℕ → Type
 
 -- ---- the end
 
-pub end-fault : (c : Cursor) (p : ℕ) → ((ended c).answer ≡ Refused (TraceFault p)) ↔ (c.stage ≡ Stopped p)
+pub end-fault : (c : Cursor) (p : ℕ) → ((ended c).answer ≡ Err (TraceFault p)) ↔ (c.stage ≡ Stopped p)
 end-fault c p = ((λ e. at c.stage e), λ e. ap (λ (g : Stage). answer_of (stop_of g)) e)
   where
-    at : (g : Stage) → answer_of (stop_of g) ≡ Refused (TraceFault p) → g ≡ Stopped p
+    at : (g : Stage) → answer_of (stop_of g) ≡ Err (TraceFault p) → g ≡ Stopped p
     at Header q = absurd (done_refused 0 (TraceFault p) q)
     at (Records left skip n) q = absurd (done_refused 0 (TraceFault p) q)
     at (Stopped n) q = let z : n ≡ p = cc in ap (λ (i : ℕ). Stopped i) z
@@ -73,12 +73,12 @@ end-fault c p = ((λ e. at c.stage e), λ e. ap (λ (g : Stage). answer_of (stop
 -- ---- one pass, on any bytes
 
 module _ (more : Bool) (c : Cursor) (p b : List ℕ) where
-  pub passes-keep : (x : Refusal) → (passes more c p b).passed.answer ≡ Refused x
+  pub passes-keep : (x : Refusal) → (passes more c p b).passed.answer ≡ Err x
       → ((passes more c p b).passed.cursor ≡ c) × ((passes more c p b).bytes ≡ b)
   unfolding passes
   passes-keep x e = go (opened_for Edit b) e
     where
-      go : (o : Contents) → (on_contents more c p b o).passed.answer ≡ Refused x
+      go : (o : Contents) → (on_contents more c p b o).passed.answer ≡ Err x
           → ((on_contents more c p b o).passed.cursor ≡ c) × ((on_contents more c p b o).bytes ≡ b)
       go (refused y) q = (refl, refl)
       go (holds fs) q = absurd (done_refused (pass_from more (room_in b) c.stage p (record { frames = fs; day = c.day })).used x q)

@@ -13,8 +13,8 @@ use Rattle.refusal.specs.declared.Refusal.TheVariants.{BufferSize}
 use Rattle.contents.specs.Contents.{holds, image, longest, room_of, start, word_at}
 use Rattle.contents.proofs.Judged.{Bytes}
 use Rattle.contents.proofs.Written.{image-length}
-use Rattle.book.specs.declared.Answer.{Answer}
-use Rattle.book.specs.declared.Answer.TheVariants.{Done, Refused}
+use Rattle.book.specs.Plain.{Answer}
+use Rattle.std.specs.Prelude.{Ok, Err}
 use Rattle.book.specs.Book.{Edit, Outcome, Permits, made, opened_for, ours}
 use Rattle.book.specs.History.{Make, after}
 use Rattle.book.proofs.Calls.{done_refused}
@@ -66,11 +66,11 @@ module _ (t b a : List ℕ) where
   made_by : Bool → Bool → Outcome
   made_by x y =
       cond {A = Outcome} x
-      (cond y (record { answer = Done 0; output = []; bytes = image ours (length b) [] }) (record { answer = Refused BufferSize; output = []; bytes = b }))
-      (record { answer = Refused BufferSize; output = []; bytes = b })
+      (cond y (record { answer = Ok 0; output = []; bytes = image ours (length b) [] }) (record { answer = Err BufferSize; output = []; bytes = b }))
+      (record { answer = Err BufferSize; output = []; bytes = b })
 
   -- no book can be made
-  pub play-refused : (m : Answer) (x : Refusal) (d : Day) → Permits (after Make b) m a → m ≡ Refused x → d ≡ fresh
+  pub play-refused : (m : Answer) (x : Refusal) (d : Day) → Permits (after Make b) m a → m ≡ Err x → d ≡ fresh
       → (record { answer = m; day = d } ≡ (plays t b).played) × (a ≡ (plays t b).bytes)
   unfolding plays made made_by
   play-refused m x d e h k = go (leb (start ours.slots) (length b)) (leb (length b) longest) e.0 e.1
@@ -82,7 +82,7 @@ module _ (t b a : List ℕ) where
       go false y f g = rw (f, k) (refl, g)
 
   -- a book is made, and one pass is over the whole trace
-  pub play-made : (m : Answer) (n : ℕ) → Permits (after Make b) m a → m ≡ Done n → length t ≤ most → Bytes t
+  pub play-made : (m : Answer) (n : ℕ) → Permits (after Make b) m a → m ≡ Ok n → length t ≤ most → Bytes t
       → (i : Cursor) → i ≡ started → (q : Passed) (y : List ℕ) → (q ≡ (passes false i t a).passed) × (y ≡ (passes false i t a).bytes)
       → (r : Played) → r ≡ ended q.cursor
       → (r ≡ (plays t b).played) × (y ≡ (plays t b).bytes)

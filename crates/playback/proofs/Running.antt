@@ -12,8 +12,8 @@ use borrow.Author.Tests.{le-leb, lt-leb}
 use Rattle.refusal.specs.declared.Refusal.{Refusal}
 use Rattle.contents.specs.Contents.{Contents, Layout, holds, image, longest, refused, room_of, start}
 use Rattle.contents.proofs.Judged.{Bytes, judge-reads}
-use Rattle.book.specs.declared.Answer.{Answer}
-use Rattle.book.specs.declared.Answer.TheVariants.{Done, Refused}
+use Rattle.book.specs.Plain.{Answer}
+use Rattle.std.specs.Prelude.{Ok, Err}
 use Rattle.book.specs.Book.{Edit, layout_in, opened_for, ours, room_in, verdict}
 use Rattle.book.proofs.Calls.{Holds, done_refused, opened-bytes, opened-holds, opened-judge}
 use Rattle.book.proofs.Versions.{edit-serves}
@@ -38,7 +38,7 @@ pub record Standing (m : ℕ) (b : List ℕ) (s : State) : Type 0 where
   pub low : start ours.slots ≤ m
   pub high : m ≤ longest
 
-pub sound-standing : (b : List ℕ) (d : Day) → Bytes b → Done 0 ≡ verdict (opened_for Edit b) → Standing (length b) b (state_in b d)
+pub sound-standing : (b : List ℕ) (d : Day) → Bytes b → Ok 0 ≡ verdict (opened_for Edit b) → Standing (length b) b (state_in b d)
 unfolding state_in
 sound-standing b d B e =
     let v = edit-serves b 0 e in
@@ -69,7 +69,7 @@ pub record Along (l : Layout) (m : ℕ) (more : Bool) (t : List ℕ) (whole : We
   pub own : l ≡ ours
   pub rest : whole ≡ after i (pass_records more (room_of ours m) left at (drop i t) (record { frames = frames; day = d }))
 
-pub along-start : (more : Bool) (t : List ℕ) (d : Day) (b : List ℕ) (i at left : ℕ) → Bytes b → Done 0 ≡ verdict (opened_for Edit b) → i ≤ length t
+pub along-start : (more : Bool) (t : List ℕ) (d : Day) (b : List ℕ) (i at left : ℕ) → Bytes b → Ok 0 ≡ verdict (opened_for Edit b) → i ≤ length t
     → Along (layout_in b) (length b) more t (after i (pass_records more (room_in b) left at (drop i t) (state_in b d))) d b i at left
 unfolding state_in
 along-start more t d b i at left B e w =
@@ -120,7 +120,7 @@ module _ (l : Layout) (m : ℕ) (more : Bool) (t : List ℕ) (whole : Went) (d :
 
   -- a loop that ends with this stage
   comes : (g : Stage) → pass_records more room left at (drop i t) s ≡ halts g s → (r : Passed)
-      → r ≡ record { answer = Done i; cursor = record { stage = g; day = d } } → Comes l m whole r b
+      → r ≡ record { answer = Ok i; cursor = record { stage = g; day = d } } → Comes l m whole r b
   comes g e r h =
       let k : i + 0 ≡ i = omega arith in
       let w : whole ≡ record { used = i; stage = g; state = s } =
@@ -128,7 +128,7 @@ module _ (l : Layout) (m : ℕ) (more : Bool) (t : List ℕ) (whole : Went) (d :
       in
       record { told = h ∙ ap went (sym w); bytes = z.stands.bytes ∙ ap₂ (λ (j : Layout) (v : Went). image j m v.state.frames) (sym z.own) (sym w) }
 
-  pub along-end : left ≡ 0 → (r : Passed) → r ≡ record { answer = Done i; cursor = record { stage = Records 0 0 at; day = d } } → Comes l m whole r b
+  pub along-end : left ≡ 0 → (r : Passed) → r ≡ record { answer = Ok i; cursor = record { stage = Records 0 0 at; day = d } } → Comes l m whole r b
   unfolding pass_records
   along-end k = comes (Records 0 0 at) (rw k refl)
 
@@ -138,12 +138,12 @@ module _ (l : Layout) (m : ℕ) (more : Bool) (t : List ℕ) (whole : Went) (d :
     some_left = omega (arith, some)
 
     pub along-stop : hopeless more (drop i t) ≡ true → (r : Passed)
-        → r ≡ record { answer = Done i; cursor = record { stage = Stopped at; day = d } } → Comes l m whole r b
+        → r ≡ record { answer = Ok i; cursor = record { stage = Stopped at; day = d } } → Comes l m whole r b
     unfolding pass_records
     along-stop h = comes (Stopped at) (ap (λ (n : ℕ). pass_records more room n at (drop i t) s) some_left ∙ rw (f, h) refl)
 
     pub along-wait : hopeless more (drop i t) ≡ false → (r : Passed)
-        → r ≡ record { answer = Done i; cursor = record { stage = Records left 0 at; day = d } } → Comes l m whole r b
+        → r ≡ record { answer = Ok i; cursor = record { stage = Records left 0 at; day = d } } → Comes l m whole r b
     unfolding pass_records
     along-wait h =
         comes (Records left 0 at)
@@ -209,8 +209,8 @@ module _ (more : Bool) (room : ℕ) (t : List ℕ) (s : State) where
 -- ---- handing over
 
 -- a pass that ends before any record
-pub comes-still : (b : List ℕ) (d : Day) (w : Went) (g : Stage) (u : ℕ) (r : Passed) → Bytes b → Done 0 ≡ verdict (opened_for Edit b)
-    → record { used = u; stage = g; state = state_in b d } ≡ w → r ≡ record { answer = Done u; cursor = record { stage = g; day = d } }
+pub comes-still : (b : List ℕ) (d : Day) (w : Went) (g : Stage) (u : ℕ) (r : Passed) → Bytes b → Ok 0 ≡ verdict (opened_for Edit b)
+    → record { used = u; stage = g; state = state_in b d } ≡ w → r ≡ record { answer = Ok u; cursor = record { stage = g; day = d } }
     → Comes (layout_in b) (length b) w r b
 unfolding state_in
 comes-still b d w g u r B e h k =
@@ -232,22 +232,22 @@ module _ (more : Bool) (c : Cursor) (p b : List ℕ) where
   Permits r x = (r ≡ (passes more c p b).passed) × (x ≡ (passes more c p b).bytes)
 
   -- the book refuses
-  pub pass-refused : (a : Answer) (x : Refusal) → a ≡ verdict (opened_for Edit b) → a ≡ Refused x → Permits (record { answer = a; cursor = c }) b
+  pub pass-refused : (a : Answer) (x : Refusal) → a ≡ verdict (opened_for Edit b) → a ≡ Err x → Permits (record { answer = a; cursor = c }) b
   unfolding passes
   pass-refused a x e h = go (opened_for Edit b) (sym h ∙ e)
     where
-      go : (o : Contents) → Refused x ≡ verdict o
+      go : (o : Contents) → Err x ≡ verdict o
           → (record { answer = a; cursor = c } ≡ (on_contents more c p b o).passed) × (b ≡ (on_contents more c p b o).bytes)
       go (refused y) z = (ap (λ (k : Answer). record { answer = k; cursor = c }) (h ∙ z), refl)
       go (holds fs) z = absurd (done_refused 0 x (sym z))
 
   -- it does not: the pass from its stage, as it was handed over
-  pub pass-sound : Done 0 ≡ verdict (opened_for Edit b) → (g : Stage) → c.stage ≡ g → (r : Passed) (x : List ℕ)
+  pub pass-sound : Ok 0 ≡ verdict (opened_for Edit b) → (g : Stage) → c.stage ≡ g → (r : Passed) (x : List ℕ)
       → Comes (layout_in b) (length b) (pass_from more (room_in b) g p (state_in b c.day)) r x → Permits r x
   unfolding passes state_in
   pass-sound e g s r x z = go (opened_for Edit b) e (subst (λ (j : Stage). Comes (layout_in b) (length b) (pass_from more (room_in b) j p (state_in b c.day)) r x) (sym s) z)
     where
-      go : (o : Contents) → Done 0 ≡ verdict o
+      go : (o : Contents) → Ok 0 ≡ verdict o
           → Comes (layout_in b) (length b) (pass_from more (room_in b) c.stage p (record { frames = frames_in o; day = c.day })) r x
           → (r ≡ (on_contents more c p b o).passed) × (x ≡ (on_contents more c p b o).bytes)
       go (refused y) q k = absurd (done_refused 0 y q)

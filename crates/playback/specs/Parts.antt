@@ -1,9 +1,8 @@
 -- A trace played in parts: where a playback stands between two parts, and what one pass does with the next bytes (REFERENCE, "Playback").
 -- Assumes nothing.
-use Rattle.std.specs.Prelude.{ℕ, zero, suc, ◌+◌, ◌-◌, Bool, true, false, cond, List, [], eqb, leb, ltb, length, drop, get_or}
+use Rattle.std.specs.Prelude.{ℕ, zero, suc, ◌+◌, ◌-◌, Bool, true, false, cond, List, [], eqb, leb, ltb, length, drop, get_or, Ok, Err}
 use Rattle.std.proofs.Math.Option.{Option, none, some}
 use Rattle.contents.specs.Contents.{Contents, holds, image, refused}
-use Rattle.book.specs.declared.Answer.TheVariants.{Done, Refused}
 use Rattle.book.specs.Book.{Edit, layout_in, opened_for, room_in}
 use Rattle.day.specs.Days.{fresh, plus}
 use Rattle.day.specs.Steps.{State, step}
@@ -86,7 +85,7 @@ pass_from more room (Stopped at) p s = halts (Stopped at) s
 
 -- how a pass is handed over
 abbrev pub went : Went → Passed
-went w = record { answer = Done w.used; cursor = record { stage = w.stage; day = w.state.day } }
+went w = record { answer = Ok w.used; cursor = record { stage = w.stage; day = w.state.day } }
 
 -- what a pass gives, with the book's bytes
 pub record Outcome : Type 0 where
@@ -95,7 +94,7 @@ pub record Outcome : Type 0 where
 
 -- A book that no call may use refuses the pass, and nothing is used or altered; else the pass is on the list that it holds.
 abbrev pub on_contents : Bool → Cursor → List ℕ → List ℕ → Contents → Outcome
-on_contents more c p b (refused x) = record { passed = record { answer = Refused x; cursor = c }; bytes = b }
+on_contents more c p b (refused x) = record { passed = record { answer = Err x; cursor = c }; bytes = b }
 on_contents more c p b (holds fs) =
     let w : Went = pass_from more (room_in b) c.stage p (record { frames = fs; day = c.day }) in
     record { passed = went w; bytes = image (layout_in b) (length b) w.state.frames }

@@ -1,11 +1,10 @@
 -- A whole trace, played on a fresh book that is made in the lent buffer (REFERENCE, "Playback").
 -- Assumes nothing.
-use Rattle.std.specs.Prelude.{ℕ, List, length}
+use Rattle.std.specs.Prelude.{ℕ, List, length, Ok, Err}
 use Rattle.std.proofs.Math.Option.{Option, none, some}
 use Rattle.refusal.specs.declared.Refusal.TheVariants.{TraceFault}
 use Rattle.contents.specs.Contents.{image, room_of}
-use Rattle.book.specs.declared.Answer.{Answer}
-use Rattle.book.specs.declared.Answer.TheVariants.{Done, Refused}
+use Rattle.book.specs.Plain.{Answer}
 use Rattle.book.specs.Book.{ours}
 use Rattle.book.specs.History.{Make, after}
 use Rattle.day.specs.Days.{fresh}
@@ -28,8 +27,8 @@ run_in room t = run_on room (traced t) morning
 
 -- a fault is refused, with its place (REFERENCE, "Refusals")
 abbrev pub answer_of : Option ℕ → Answer
-answer_of none = Done 0
-answer_of (some at) = Refused (TraceFault at)
+answer_of none = Ok 0
+answer_of (some at) = Err (TraceFault at)
 
 -- how a run is handed over
 abbrev pub handed : Run → Played
@@ -44,8 +43,8 @@ pub record Outcome : Type 0 where
 
 -- where no book can be made nothing is played and nothing altered; else the book is that of the run's list, also where the run stopped
 abbrev pub on_made : List ℕ → List ℕ → Answer → Outcome
-on_made t b (Refused x) = record { played = record { answer = Refused x; day = fresh }; bytes = b }
-on_made t b (Done n) =
+on_made t b (Err x) = record { played = record { answer = Err x; day = fresh }; bytes = b }
+on_made t b (Ok n) =
     record { played = handed (run_in (room_of ours (length b)) t); bytes = image ours (length b) (run_in (room_of ours (length b)) t).state.frames }
 
 -- a playback on whatever bytes stand in the buffer

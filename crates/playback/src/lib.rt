@@ -82,20 +82,14 @@ pub fn end(cursor: Cursor) -> Played
     let day = cursor.day;
     let stage = cursor.stage;
     match stage {
-        Stage::Header => Played {
-            answer: Answer::Done(0),
-            day,
-        },
+        Stage::Header => Played { answer: Ok(0), day },
         Stage::Records {
             left: _,
             skip: _,
             at: _,
-        } => Played {
-            answer: Answer::Done(0),
-            day,
-        },
+        } => Played { answer: Ok(0), day },
         Stage::Stopped(at) => Played {
-            answer: Answer::Refused(Refusal::TraceFault(at)),
+            answer: Err(Refusal::TraceFault(at)),
             day,
         },
     }
@@ -164,10 +158,10 @@ fn turn(day: Day, book: &mut [u8], part: &[u8], i: usize, end: usize) -> Day
 // ---- a pass
 
 fn halt(used: usize, stage: Stage, day: Day) -> Passed
-    ensures { result ≡ record { answer = Answer.Done used; cursor = record { stage = stage; day = day } } }
+    ensures { result ≡ record { answer = Ok used; cursor = record { stage = stage; day = day } } }
 {
     Passed {
-        answer: Answer::Done(used),
+        answer: Ok(used),
         cursor: Cursor { stage, day },
     }
 }
@@ -182,7 +176,7 @@ fn play_records(
     count: usize,
     offset: usize,
 ) -> Passed
-    requires { (Answer.Done 0 ≡ verdict (opened_for Edit book.old)) × (from ≤ length part.now) }
+    requires { (Ok 0 ≡ verdict (opened_for Edit book.old)) × (from ≤ length part.now) }
     ensures { RecordsCome more count offset from part.now day book.old result book.new }
 {
     let mut day = day;
@@ -225,7 +219,7 @@ fn play_gap(
     skip: usize,
     at: usize,
 ) -> Passed
-    requires { (Answer.Done 0 ≡ verdict (opened_for Edit book.old)) × (from ≤ length part.now) }
+    requires { (Ok 0 ≡ verdict (opened_for Edit book.old)) × (from ≤ length part.now) }
     ensures { GapComes more left skip at from part.now day book.old result book.new }
 {
     let here = part.len() - from;
@@ -245,7 +239,7 @@ fn play_gap(
 
 // The header, and what is behind it.
 fn play_header(day: Day, book: &mut [u8], part: &[u8], more: bool) -> Passed
-    requires { Answer.Done 0 ≡ verdict (opened_for Edit book.old) }
+    requires { Ok 0 ≡ verdict (opened_for Edit book.old) }
     ensures { HeaderComes more part.now day book.old result book.new }
 {
     if part.len() < 4 {
@@ -268,7 +262,7 @@ pub fn pass(cursor: Cursor, book: &mut [u8], part: &[u8], more: bool) -> Passed
     ensures book_after { book.new ≡ (passes more cursor part.now book.old).bytes }
 {
     let found = book::ready_to_edit(book);
-    let Answer::Done(_) = found else {
+    let Ok(_) = found else {
         return Passed {
             answer: found,
             cursor,
@@ -291,7 +285,7 @@ pub fn play(trace: &[u8], book: &mut [u8]) -> Played
     ensures book_after { book.new ≡ (plays trace.now book.old).bytes }
 {
     let made = book::make(book);
-    let Answer::Done(_) = made else {
+    let Ok(_) = made else {
         let day = day::fresh();
         return Played { answer: made, day };
     };

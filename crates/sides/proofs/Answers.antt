@@ -28,9 +28,8 @@ use Rattle.contents.specs.Contents.{holds, judge, refused}
 use Rattle.forms.specs.Forms.{single}
 use Rattle.owners.specs.Owners.{OwnerTable, is_side, owner_of, owns, quota_of, table_right}
 use Rattle.owners.proofs.Laws.{Right, means-side, right-table, side-means, table-right}
-use Rattle.book.specs.declared.Answer.{Answer}
-use Rattle.book.specs.declared.Answer.TheVariants.{Done, Refused}
-use Rattle.book.specs.Plain.{Turn, ask_on, become, clear_on, frame_of, placed, refuse, remove_on, replay_on, tell, without}
+use Rattle.std.specs.Prelude.{Ok, Err}
+use Rattle.book.specs.Plain.{Turn, ask_on, become, clear_on, frame_of, placed, refuse, remove_on, replay_on, tell, without, Answer}
 use Rattle.book.specs.Book.{Read, call_for, layout_in, opened, opened_for, room_in}
 use Rattle.book.proofs.Calls.{done_refused}
 use Rattle.book.proofs.Laws.{put-eight, setting-full}
@@ -153,7 +152,7 @@ pub steps_low : (n : ℕ) → 13 ≤ n → Steps (λ x. number_of x ≤ n)
 steps_low n h =
     record { room = omega arith; held = omega arith; kind = omega arith; short = omega arith; frame = λ f x e. omega (arith, decode-own f x e) }
 
-apart : (x y : Refusal) → number_of x < number_of y → Refused x ≡ Refused y → ⊥
+apart : (x y : Refusal) → number_of x < number_of y → ◌≡◌ {A = Answer} (Err x) (Err y) → ⊥
 apart x y h e = let z : x ≡ y = cc in let n : number_of x ≡ number_of y = ap number_of z in omega arith
 
 -- a frame of a setting of the side, with which the side's own frames would have more bytes than its quota says
@@ -172,13 +171,13 @@ Over t w Replay gs = ⊥
 
 -- 8 is none of the other requests' refusals
 abbrev Fits : Answer → Type 0
-Fits a = a ≡ Refused NoRoom → ⊥
+Fits a = a ≡ Err NoRoom → ⊥
 
 tell-fits : (x o : List ℕ) (gs : List (List ℕ)) → Fits (tell x o gs).answer
 tell-fits x o gs = go (leb (length x) (length o))
   where
     go : (y : Bool)
-        → Fits (cond {A = Turn} y (record { answer = Done (length x); output = x ++ drop (length x) o; frames = gs }) (refuse OutputShort o gs)).answer
+        → Fits (cond {A = Turn} y (record { answer = Ok (length x); output = x ++ drop (length x) o; frames = gs }) (refuse OutputShort o gs)).answer
     go true e = done_refused (length x) NoRoom e
     go false e = apart NoRoom OutputShort (omega arith) (sym e)
 
@@ -189,7 +188,7 @@ held_fits x o gs h true false = λ e. apart NoRoom NotHeld (omega arith) (sym e)
 held_fits x o gs h false z = λ e. apart NoRoom NotAKind (omega arith) (sym e)
 
 module _ (t : OwnerTable) (w : ℕ) (o : List ℕ) (gs : List (List ℕ)) where
-  step-over : (c : Request) → barred t w c ≡ false → (step_of c o (quota_of t w) gs).answer ≡ Refused NoRoom → Over t w c gs
+  step-over : (c : Request) → barred t w c ≡ false → (step_of c o (quota_of t w) gs).answer ≡ Err NoRoom → Over t w c gs
   unfolding remove_on ask_on clear_on replay_on
   step-over (Put f) u e =
       let n = put-eight f o (quota_of t w) gs e in record { setting = n.0; own = mine n.0 (eqb (owner_of t.owners (slot_of f)) w) refl; over = n.1 }
@@ -204,7 +203,7 @@ module _ (t : OwnerTable) (w : ℕ) (o : List ℕ) (gs : List (List ℕ)) where
   step-over Clear u e = done_refused 0 NoRoom e
   step-over Replay u e = tell-fits (reel_of gs) o gs e
 
-  over-step : (c : Request) → Over t w c gs → (barred t w c ≡ false) × ((step_of c o (quota_of t w) gs).answer ≡ Refused NoRoom)
+  over-step : (c : Request) → Over t w c gs → (barred t w c ≡ false) × ((step_of c o (quota_of t w) gs).answer ≡ Err NoRoom)
   over-step (Put f) n =
       (own (barred t w (Put f)) refl, ap (λ (x : Turn). x.answer) ((setting-full f o (quota_of t w) gs n.setting).0 n.over))
     where
@@ -224,18 +223,18 @@ may_on t w b fs = may_call (layout_in b).slots t w (room_in b) (part_of t 1 fs) 
 
 module _ (t : OwnerTable) (w : ℕ) (c : Request) (o b : List ℕ) where
   -- THE BOOK'S OWN REFUSALS COME FIRST
-  pub book-first : (x : Refusal) → opened_for (wants_of c) b ≡ refused x → after_event t (by w c o) b ≡ record { answer = Refused x; output = o; bytes = b }
+  pub book-first : (x : Refusal) → opened_for (wants_of c) b ≡ refused x → after_event t (by w c o) b ≡ record { answer = Err x; output = o; bytes = b }
   unfolding call_for
   book-first x e = rw e
 
   -- its size and its bytes, which get 11 and 10
-  pub ten-first : (x : Refusal) → judge (layout_in b) b ≡ refused x → after_event t (by w c o) b ≡ record { answer = Refused x; output = o; bytes = b }
+  pub ten-first : (x : Refusal) → judge (layout_in b) b ≡ refused x → after_event t (by w c o) b ≡ record { answer = Err x; output = o; bytes = b }
   unfolding opened
   ten-first x e = book-first x (opened_for-refuses (wants_of c) b x (rw e))
 
   -- and a setting that it holds in both its forms, which gets 16
   pub both_first : (fs : List (List ℕ)) → judge (layout_in b) b ≡ holds fs → single fs ≡ false
-      → after_event t (by w c o) b ≡ record { answer = Refused BothForms; output = o; bytes = b }
+      → after_event t (by w c o) b ≡ record { answer = Err BothForms; output = o; bytes = b }
   unfolding opened
   both_first fs e n = book-first BothForms (opened_for-refuses (wants_of c) b BothForms (rw (e, n)))
 
@@ -244,19 +243,19 @@ module _ (t : OwnerTable) (w : ℕ) (c : Request) (o b : List ℕ) where
     unfolding call_for
     on-frames = rw h
 
-    wrong : may_on t w b fs ≡ false → (after_event t (by w c o) b).answer ≡ Refused OwnersWrong
+    wrong : may_on t w b fs ≡ false → (after_event t (by w c o) b).answer ≡ Err OwnersWrong
     wrong e = on-frames ∙ ap (λ (x : Turn). x.answer) (side-wrong (layout_in b).slots t w (room_in b) fs e c o)
 
     module _ (may : may_on t w b fs ≡ true) where
-      away : barred t w c ≡ true → (after_event t (by w c o) b).answer ≡ Refused OtherSide
+      away : barred t w c ≡ true → (after_event t (by w c o) b).answer ≡ Err OtherSide
       away u = on-frames ∙ ap (λ (x : Turn). x.answer) (side-barred (layout_in b).slots t w (room_in b) fs may c o u)
 
       stepped : barred t w c ≡ false → (after_event t (by w c o) b).answer ≡ (step_of c o (quota_of t w) (part_of t w fs)).answer
       stepped u = on-frames ∙ ap (λ (x : Turn). x.answer) (side-step (layout_in b).slots t w (room_in b) fs may c o u)
 
     -- so what holds of the answer in each of the three cases holds of it
-    by-case : (P : Answer → Type 0) → (may_on t w b fs ≡ false → P (Refused OwnersWrong))
-        → (may_on t w b fs ≡ true → barred t w c ≡ true → P (Refused OtherSide))
+    by-case : (P : Answer → Type 0) → (may_on t w b fs ≡ false → P (Err OwnersWrong))
+        → (may_on t w b fs ≡ true → barred t w c ≡ true → P (Err OtherSide))
         → (may_on t w b fs ≡ true → barred t w c ≡ false → P (step_of c o (quota_of t w) (part_of t w fs)).answer) → P (after_event t (by w c o) b).answer
     by-case P x y z = go (may_on t w b fs) refl (barred t w c) refl
       where
@@ -266,37 +265,37 @@ module _ (t : OwnerTable) (w : ℕ) (c : Request) (o b : List ℕ) where
         go true p false q = subst P (sym (stepped p q)) (z p q)
 
     -- a step gives neither 17 nor 18
-    not_step : (x : Refusal) → 13 < number_of x → (step_of c o (quota_of t w) (part_of t w fs)).answer ≡ Refused x → ⊥
+    not_step : (x : Refusal) → 13 < number_of x → (step_of c o (quota_of t w) (part_of t w fs)).answer ≡ Err x → ⊥
     not_step x n e =
         let z : number_of x ≤ 13 =
         subst (Says (λ y. number_of y ≤ 13)) e (step-says (λ y. number_of y ≤ 13) (steps_low 13 (omega arith)) c o (quota_of t w) (part_of t w fs)) in
         omega arith
 
     -- 17 EXACTLY WHERE THE SIDE MAY NOT CALL
-    pub side-seventeen : (may_on t w b fs ≡ false → (after_event t (by w c o) b).answer ≡ Refused OwnersWrong)
-        × ((after_event t (by w c o) b).answer ≡ Refused OwnersWrong → may_on t w b fs ≡ false)
+    pub side-seventeen : (may_on t w b fs ≡ false → (after_event t (by w c o) b).answer ≡ Err OwnersWrong)
+        × ((after_event t (by w c o) b).answer ≡ Err OwnersWrong → may_on t w b fs ≡ false)
     side-seventeen = (
       wrong,
-      by-case (λ a. a ≡ Refused OwnersWrong → may_on t w b fs ≡ false) (λ p e. p) (λ p q e. absurd (apart OwnersWrong OtherSide (omega arith) (sym e)))
+      by-case (λ a. a ≡ Err OwnersWrong → may_on t w b fs ≡ false) (λ p e. p) (λ p q e. absurd (apart OwnersWrong OtherSide (omega arith) (sym e)))
           (λ p q e. absurd (not_step OwnersWrong (omega arith) e)),
     )
 
     -- 18 EXACTLY WHERE IT MAY, AND THE CALL IS FOR A SETTING OF THE OTHER SIDE
-    pub side-eighteen : (may_on t w b fs ≡ true → Foreign t w c → (after_event t (by w c o) b).answer ≡ Refused OtherSide)
-        × ((after_event t (by w c o) b).answer ≡ Refused OtherSide → (may_on t w b fs ≡ true) × Foreign t w c)
+    pub side-eighteen : (may_on t w b fs ≡ true → Foreign t w c → (after_event t (by w c o) b).answer ≡ Err OtherSide)
+        × ((after_event t (by w c o) b).answer ≡ Err OtherSide → (may_on t w b fs ≡ true) × Foreign t w c)
     side-eighteen = (
       (λ p n. away p (means-barred t w c n)),
-      by-case (λ a. a ≡ Refused OtherSide → (may_on t w b fs ≡ true) × Foreign t w c)
+      by-case (λ a. a ≡ Err OtherSide → (may_on t w b fs ≡ true) × Foreign t w c)
           (λ p e. absurd (apart OwnersWrong OtherSide (omega arith) e)) (λ p q e. (p, barred-means t w c q))
           (λ p q e. absurd (not_step OtherSide (omega arith) e)),
     )
 
     -- 8 EXACTLY WHERE IT MAY, AND ITS OWN FRAMES WITH THE ONE THAT IS PUT EXCEED ITS QUOTA, whatever room the book has
-    pub side-eight : (may_on t w b fs ≡ true → Over t w c (part_of t w fs) → (after_event t (by w c o) b).answer ≡ Refused NoRoom)
-        × ((after_event t (by w c o) b).answer ≡ Refused NoRoom → (may_on t w b fs ≡ true) × Over t w c (part_of t w fs))
+    pub side-eight : (may_on t w b fs ≡ true → Over t w c (part_of t w fs) → (after_event t (by w c o) b).answer ≡ Err NoRoom)
+        × ((after_event t (by w c o) b).answer ≡ Err NoRoom → (may_on t w b fs ≡ true) × Over t w c (part_of t w fs))
     side-eight = (
       (λ p n. let s = over-step t w o (part_of t w fs) c n in stepped p s.0 ∙ s.1),
-      by-case (λ a. a ≡ Refused NoRoom → (may_on t w b fs ≡ true) × Over t w c (part_of t w fs))
+      by-case (λ a. a ≡ Err NoRoom → (may_on t w b fs ≡ true) × Over t w c (part_of t w fs))
           (λ p e. absurd (apart NoRoom OwnersWrong (omega arith) (sym e))) (λ p q e. absurd (apart NoRoom OtherSide (omega arith) (sym e)))
           (λ p q e. (p, step-over t w o (part_of t w fs) c q e)),
     )
@@ -304,7 +303,7 @@ module _ (t : OwnerTable) (w : ℕ) (c : Request) (o b : List ℕ) where
 -- A REPLAY TELLS THE SIDE'S OWN FRAMES, and nothing of the other's
 pub replay-own : (t : OwnerTable) (w : ℕ) (o b : List ℕ) (fs : List (List ℕ)) → opened_for Read b ≡ holds fs → may_on t w b fs ≡ true
     → length (reel_of (part_of t w fs)) ≤ length o
-    → ((after_event t (by w Replay o) b).answer ≡ Done (length (reel_of (part_of t w fs))))
+    → ((after_event t (by w Replay o) b).answer ≡ Ok (length (reel_of (part_of t w fs))))
     × ((after_event t (by w Replay o) b).output ≡ reel_of (part_of t w fs) ++ drop (length (reel_of (part_of t w fs))) o)
 unfolding call_for side_on own_turn barred replay_on
 replay-own t w o b fs h may n = rw (h, may, le-leb (length (reel_of (part_of t w fs))) (length o) n) (refl, refl)

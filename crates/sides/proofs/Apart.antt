@@ -13,9 +13,8 @@ use Rattle.refusal.specs.declared.Refusal.TheVariants.{OwnersWrong}
 use Rattle.contents.specs.Frames.{flat}
 use Rattle.contents.specs.Contents.{longest, room_of, start}
 use Rattle.owners.specs.Owners.{OwnerTable, is_side, quota_of, table_right}
-use Rattle.book.specs.declared.Answer.{Answer}
-use Rattle.book.specs.declared.Answer.TheVariants.{Done, Refused}
-use Rattle.book.specs.Plain.{Turn, refuse}
+use Rattle.std.specs.Prelude.{Ok, Err}
+use Rattle.book.specs.Plain.{Turn, refuse, Answer}
 use Rattle.book.specs.Book.{made, ours}
 use Rattle.book.specs.History.{BytesRun, Call, Heard, is_read, on_bytes, on_list}
 use Rattle.book.specs.History as whole
@@ -53,11 +52,11 @@ module _ (m room : ℕ) (t : OwnerTable) where
   read-leaves whole.Make e a w own = absurd (false≢true e)
   read-leaves (whole.Put f) e a w own = absurd (false≢true e)
   read-leaves (whole.Remove k) e a w own = absurd (false≢true e)
-  read-leaves (whole.Ask k o) e (Done n) w own = refl
-  read-leaves (whole.Ask k o) e (Refused x) w own = refl
+  read-leaves (whole.Ask k o) e (Ok n) w own = refl
+  read-leaves (whole.Ask k o) e (Err x) w own = refl
   read-leaves whole.Clear e a w own = absurd (false≢true e)
-  read-leaves (whole.Replay o) e (Done n) w own = refl
-  read-leaves (whole.Replay o) e (Refused x) w own = refl
+  read-leaves (whole.Replay o) e (Ok n) w own = refl
+  read-leaves (whole.Replay o) e (Err x) w own = refl
 
   module _ (g1 g2 : List (List ℕ)) (h : within_quotas t g1 g2 ≡ true) where
     own-fits : (c : SideCall) (a : Answer) (w : ℕ) (own : List (List ℕ)) → length (flat own) ≤ quota_of t w

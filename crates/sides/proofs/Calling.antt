@@ -22,9 +22,9 @@ use Rattle.contents.proofs.Judged.{Bytes, Reads, judge-reads}
 use Rattle.contents.proofs.Loops.{minus-end, minus-step}
 use Rattle.owners.specs.Owners.{OwnerTable, is_side, owns, quota_of, table_right}
 use Rattle.owners.proofs.Laws.{means-side, owns-other}
-use Rattle.book.specs.declared.Answer.{Answer}
-use Rattle.book.specs.declared.Answer.TheVariants.{Done, Refused}
-use Rattle.book.specs.Plain.{Turn, ask_on, become, clear_on, placed, put_on, refuse, remove_on, replay_on, tell, without}
+use Rattle.std.specs.Prelude.{Ok, Err}
+use Rattle.std.specs.Result.{result_and}
+use Rattle.book.specs.Plain.{Turn, ask_on, become, clear_on, placed, put_on, refuse, remove_on, replay_on, tell, without, Answer}
 use Rattle.book.specs.Book.{Edit, Outcome, Permits, Read, Tells, Use, call_for, layout_in, longest_reel, on_contents, opened, opened_for, ours, room_in, verdict}
 use Rattle.book.proofs.Calls.{Gives, opened-bytes, opened-judge, present-held}
 use Rattle.book.proofs.Versions.{edit-opened, edit-serves, edit-slots, opened_for-opened, turned-off}
@@ -56,9 +56,13 @@ read-may t w b fs h =
     rw (weight_is (layout_in b) b fs h (owns t.owners 1), weight_is (layout_in b) b fs h (owns t.owners 2))
 
 -- a refusal behind what was found of a book is one behind the book's own
-pub own_first : (u : Use) (b : List ℕ) (why : Refusal) (found a : Answer) → a ≡ behind found why → found ≡ verdict (opened_for u b)
+pub own_first : (u : Use) (b : List ℕ) (why : Refusal) (found a : Answer) → a ≡ result_and found (Err why) → found ≡ verdict (opened_for u b)
     → a ≡ behind (verdict (opened_for u b)) why
-own_first u b why found a e f = e ∙ ap (λ (x : Answer). behind x why) f
+own_first u b why found a e f = e ∙ by found ∙ ap (λ (x : Answer). behind x why) f
+  where
+    by : (x : Answer) → result_and x (Err why) ≡ behind x why
+    by (Ok n) = refl
+    by (Err y) = refl
 
 -- what is read of table, caller and quotas, one after the other
 module _ (m : ℕ) (t : OwnerTable) (w room : ℕ) (b : List ℕ) where
@@ -87,7 +91,7 @@ module _ (m : ℕ) (t : OwnerTable) (w room : ℕ) (b : List ℕ) where
 module _ (t : OwnerTable) (w : ℕ) (b : List ℕ) (B : Bytes b) where
   -- a step that refuses and keeps the frames keeps the bytes
   kept-away : (u : Use) (s : List ℕ → ℕ → List (List ℕ) → Turn) (o : List ℕ) (fs : List (List ℕ)) (x : Refusal) → opened_for u b ≡ holds fs
-      → s o (room_in b) fs ≡ refuse x o fs → Gives (call_for u s o b) (Refused x) o b
+      → s o (room_in b) fs ≡ refuse x o fs → Gives (call_for u s o b) (Err x) o b
   kept-away u s o fs x h e =
       let k = stays u b B fs h s o (ap (λ (y : Turn). y.frames) e) in
       record {
@@ -127,7 +131,7 @@ module _ (t : OwnerTable) (w : ℕ) (b : List ℕ) (B : Bytes b) where
   wrong-frames bad fs h c o = side-wrong (layout_in b).slots t w (room_in b) fs (sym (read-may t w b fs h) ∙ bad) c o
 
   pub wrong-kept : may_read (layout_in b).slots t w (room_in b) b ≡ false → (fs : List (List ℕ)) (c : Request) → opened_for (wants_of c) b ≡ holds fs → (o : List ℕ)
-      → Gives (side_call t w c o b) (Refused OwnersWrong) o b
+      → Gives (side_call t w c o b) (Err OwnersWrong) o b
   wrong-kept bad fs c h o =
       kept-away (wants_of c) (side_on (layout_in b).slots t w c) o fs OwnersWrong h (wrong-frames bad fs (opened_for-opened (wants_of c) b fs h) c o)
 
@@ -226,7 +230,7 @@ module _ (n : ℕ) (low : start ours.slots ≤ n) (high : n ≤ longest) where
       go ih false = ih fs K
 
 module _ (t : OwnerTable) (w : ℕ) (b : List ℕ) (B : Bytes b) (O : Open t w b) (e : opened_for Edit b ≡ holds O.frames) where
-  pub clear-call : (y : List ℕ) → y ≡ emptied_bytes (owns t.owners w) kinds 1 b → Permits (side_call t w Clear [] b) (Done 0) y
+  pub clear-call : (y : List ℕ) → y ≡ emptied_bytes (owns t.owners w) kinds 1 b → Permits (side_call t w Clear [] b) (Ok 0) y
   unfolding call_for barred clear_on
   clear-call y q = (
     rw (e, cleared) refl,
@@ -293,7 +297,7 @@ tell-apart : (x o : List ℕ) (fs gs : List (List ℕ)) → ((tell x o fs).answe
 tell-apart x o fs gs = go (leb (length x) (length o))
   where
     told : Bool → List (List ℕ) → Turn
-    told t hs = cond {A = Turn} t (record { answer = Done (length x); output = x ++ drop (length x) o; frames = hs }) (refuse OutputShort o hs)
+    told t hs = cond {A = Turn} t (record { answer = Ok (length x); output = x ++ drop (length x) o; frames = hs }) (refuse OutputShort o hs)
 
     go : (t : Bool) → ((told t fs).answer ≡ (told t gs).answer) × ((told t fs).output ≡ (told t gs).output)
     go true = (refl, refl)
@@ -301,7 +305,7 @@ tell-apart x o fs gs = go (leb (length x) (length o))
 
 -- the replay into a buffer for every reel is refused only as the book is
 pub replay-away : (b o : List ℕ) → longest_reel ≤ length o → (t : OwnerTable) (w : ℕ) (out : List ℕ) (a : Answer) (x : Refusal)
-    → a ≡ (call_for Read replay_on o b).answer → a ≡ Refused x → Gives (side_call t w Replay out b) a out b
+    → a ≡ (call_for Read replay_on o b).answer → a ≡ Err x → Gives (side_call t w Replay out b) a out b
 replay-away b o long t w out a x e z =
     turned-off (side_on (layout_in b).slots t w Replay) out b Read a x (z ∙ sym (ap verdict (replay-refused b o long a x e z))) z
 

@@ -17,9 +17,8 @@ use Rattle.contents.specs.Frames.{flat, held}
 use Rattle.forms.specs.Forms.{other, other_in}
 use Rattle.reel.specs.Reel.{reel_of}
 use Rattle.owners.specs.Owners.{OwnerTable, all_first, each_side, is_side, joined, joined_in, owner_table, owns, spare_first, table_right}
-use Rattle.book.specs.declared.Answer.{Answer}
-use Rattle.book.specs.declared.Answer.TheVariants.{Done, Refused}
-use Rattle.book.specs.Plain.{ask_on, clear_on, frame_of, placed, put_on, remove_on, replay_on, seat, swap_in, without}
+use Rattle.std.specs.Prelude.{Ok, Err}
+use Rattle.book.specs.Plain.{ask_on, clear_on, frame_of, placed, put_on, remove_on, replay_on, seat, swap_in, without, Answer}
 use Rattle.book.specs.Book.{ours}
 use Rattle.book.specs.History.{turn}
 use Rattle.book.specs.History as whole
@@ -56,8 +55,8 @@ pub data Said : Type 0 where
   refusal : ℕ → Said
 
 abbrev pub told : Answer → Said
-told (Done n) = done n
-told (Refused x) = refusal (number_of x)
+told (Ok n) = done n
+told (Err x) = refusal (number_of x)
 
 -- an event, what it is told, and the joint list after it
 record Step : Type 0 where

@@ -20,7 +20,7 @@ use Rattle.contents.proofs.Judged.{Bytes}
 use Rattle.contents.proofs.Written.{image-length}
 use Rattle.owners.specs.Owners.{OwnerTable}
 use Rattle.owners.proofs.Laws.{Right, means-side, right-table}
-use Rattle.book.specs.declared.Answer.TheVariants.{Refused}
+use Rattle.std.specs.Prelude.{Err}
 use Rattle.book.specs.Book.{Edit, Use, made, opened_for, ours, verdict}
 use Rattle.book.specs.History.{BytesRun, on_bytes, on_list, turn}
 use Rattle.book.proofs.Calls.{done_refused, opened-bytes}
@@ -77,7 +77,7 @@ steps-not = record {
 
 -- and so none on bytes that open, for whatever is wanted of them
 opens-none : (t : OwnerTable) (b : List ℕ) (fs : List (List ℕ)) → ((u : Use) → opened_for u b ≡ holds fs) → (e : Event)
-    → (after_event t e b).answer ≡ Refused BothForms → ⊥
+    → (after_event t e b).answer ≡ Err BothForms → ⊥
 opens-none t b fs h e q =
     subst (Says Not16) q
     (event-says Not16 steps-not (λ n. omega arith) (λ n. omega arith) b
@@ -94,7 +94,7 @@ from-opens t n low high es fs K u =
 
 -- NO EVENT BRINGS A SECOND FORM into a stored book that can be edited: after whatever events none gets 16
 pub stored-none : (t : OwnerTable) (b : List ℕ) (fs : List (List ℕ)) → opened_for Edit b ≡ holds fs → Bytes b → (es : List Event) (e : Event)
-    → (after_event t e (on_bytes (after_event t) es b).bytes).answer ≡ Refused BothForms → ⊥
+    → (after_event t e (on_bytes (after_event t) es b).bytes).answer ≡ Err BothForms → ⊥
 stored-none t b fs h B es =
     let r = sized b fs h in
     opens-none t (on_bytes (after_event t) es b).bytes (on_list (jointly ours.slots (room_of ours (length b)) t) es fs).frames
@@ -121,12 +121,12 @@ module _ (t : OwnerTable) (b : List ℕ) (low : start ours.slots ≤ length b) (
   shared-opens u = ap (opened_for u) left_is ∙ opened_for-image (length b) low high joint joint-kept u
 
   -- NO EVENT EVER LEADS TO A 16, of the sides' or of the whole book's
-  pub no-sixteen : (e : Event) → (after_event t e left).answer ≡ Refused BothForms → ⊥
+  pub no-sixteen : (e : Event) → (after_event t e left).answer ≡ Err BothForms → ⊥
   no-sixteen = opens-none t left joint shared-opens
 
   -- BY THE SIDES' CALLS ALONE NEITHER SIDE EVER EXCEEDS ITS QUOTA: beside a right table a side is never refused by 17
   pub never-over : by_sides es ≡ true → Right ours.slots (room_of ours (length b)) t → (w : ℕ) → (w ≡ 1) ⊎ (w ≡ 2) → (c : Request) (o : List ℕ)
-      → (after_event t (by w c o) left).answer ≡ Refused OwnersWrong → ⊥
+      → (after_event t (by w c o) left).answer ≡ Err OwnersWrong → ⊥
   unfolding may_call chosen flat
   never-over s R w side c o e = false≢true (sym ((side-seventeen t w c o left joint (shared-opens (wants_of c))).1 e) ∙ may)
     where

@@ -19,9 +19,8 @@ use Rattle.contents.specs.Frames.{flat, held}
 use Rattle.contents.specs.Contents.{Layout, image, longest, room_of, start}
 use Rattle.owners.specs.Owners.{OwnerTable, is_side, owns, table_right}
 use Rattle.owners.proofs.Laws.{OneOwner, owns-other, table-right}
-use Rattle.book.specs.declared.Answer.{Answer}
-use Rattle.book.specs.declared.Answer.TheVariants.{Done, Refused}
-use Rattle.book.specs.Plain.{Turn, ask_on, become, clear_on, placed, put_on, refuse, remove_on, replay_on, tell, without}
+use Rattle.std.specs.Prelude.{Ok, Err}
+use Rattle.book.specs.Plain.{Turn, ask_on, become, clear_on, placed, put_on, refuse, remove_on, replay_on, tell, without, Answer}
 use Rattle.book.specs.Book.{call_for, made, ours}
 use Rattle.book.specs.History.{BytesRun, Call, Heard, on_bytes, on_list, turn}
 use Rattle.book.specs.History as whole
@@ -117,14 +116,14 @@ module _ (t : OwnerTable) (joins : OneOwner t.owners) (room w : ℕ) (fs : List 
   turn-shared (whole.Ask k o) = read (ask_on k o room fs).answer ∙ ap (part_of t w) (sym (ask-frames k o room fs))
     where
       read : (a : Answer) → shared_by t a w (whole.Ask k o) (part_of t w fs) ≡ part_of t w fs
-      read (Done n) = refl
-      read (Refused x) = refl
+      read (Ok n) = refl
+      read (Err x) = refl
   turn-shared whole.Clear = refl
   turn-shared (whole.Replay o) = read (tell (reel_of fs) o fs).answer ∙ ap (part_of t w) (sym (tell-frames (reel_of fs) o fs))
     where
       read : (a : Answer) → shared_by t a w (whole.Replay o) (part_of t w fs) ≡ part_of t w fs
-      read (Done n) = refl
-      read (Refused x) = refl
+      read (Ok n) = refl
+      read (Err x) = refl
 
 module _ (m room : ℕ) (t : OwnerTable) where
   -- a side's call is answered by the side's own list

@@ -9,9 +9,8 @@ use Rattle.refusal.specs.declared.Refusal.TheVariants.{OtherSide, OwnersWrong}
 use Rattle.book.specs.Book.{layout_in}
 use Rattle.contents.proofs.Judged.{Bytes}
 use Rattle.owners.specs.Owners.{OwnerTable, quota_of}
-use Rattle.book.specs.declared.Answer.{Answer}
-use Rattle.book.specs.declared.Answer.TheVariants.{Refused}
-use Rattle.book.specs.Plain.{refuse}
+use Rattle.std.specs.Prelude.{Err}
+use Rattle.book.specs.Plain.{refuse, Answer}
 use Rattle.book.proofs.Keeps.{Keeps, ask-keeps, call-keeps, clear-keeps, put_keeps, remove-keeps, replay-keeps}
 use Rattle.sides.specs.Parts.{part_of}
 use Rattle.sides.specs.Calls.{Ask, Clear, Put, Remove, Replay, Request, amid, barred, edited, if_accepted, may_call, own_turn, side_call, side_on}
@@ -41,7 +40,7 @@ turn-keeps m t w c o room fs = go (may_call m t w room (part_of t 1 fs) (part_of
     go false x e = (refl, refl)
 
 -- WHAT IS REFUSED ALTERS NOTHING, of a side's calls too
-pub side-keeps : (t : OwnerTable) (w : ℕ) (c : Request) (o b : List ℕ) → Bytes b → (x : Refusal) → (side_call t w c o b).answer ≡ Refused x
+pub side-keeps : (t : OwnerTable) (w : ℕ) (c : Request) (o b : List ℕ) → Bytes b → (x : Refusal) → (side_call t w c o b).answer ≡ Err x
     → ((side_call t w c o b).output ≡ o) × ((side_call t w c o b).bytes ≡ b)
 side-keeps t w c o b B =
     call-keeps (wants_of c) (side_on (layout_in b).slots t w c) o b B (λ room fs. turn-keeps (layout_in b).slots t w c o room fs)

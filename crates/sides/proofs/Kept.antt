@@ -13,9 +13,8 @@ use Rattle.settings.specs.Settings.{slot_of}
 use Rattle.contents.specs.Frames.{flat}
 use Rattle.contents.proofs.Shape.{sound-within}
 use Rattle.owners.specs.Owners.{OwnerTable, owns, quota_of}
-use Rattle.book.specs.declared.Answer.{Answer}
-use Rattle.book.specs.declared.Answer.TheVariants.{Done, Refused}
-use Rattle.book.specs.Plain.{Turn, clear_on, placed, replay_on}
+use Rattle.std.specs.Prelude.{Ok, Err}
+use Rattle.book.specs.Plain.{Turn, clear_on, placed, replay_on, Answer}
 use Rattle.book.proofs.Kept.{Kept, ask-kept, put-kept, remove-kept, turn-kept}
 use Rattle.sides.specs.Parts.{chosen, part_of}
 use Rattle.sides.specs.Calls.{Ask, Clear, Put, Remove, Replay, Request, barred, if_accepted, may_call, side_on}
@@ -35,8 +34,8 @@ module _ (m room : ℕ) (big : settings ≤ m) (t : OwnerTable) (fs : List (List
       record { sound = s; within = sound-within m big (chosen q fs) s; forms = forms-chosen q fs K.forms; room = omega (arith, chosen-le q fs, K.room) }
 
   same : (a : Answer) → Kept m room (if_accepted a fs fs)
-  same (Done n) = K
-  same (Refused x) = K
+  same (Ok n) = K
+  same (Err x) = K
 
   module _ (may : may_call m t w room (part_of t 1 fs) (part_of t 2 fs) ≡ true) where
     put-stands : (f : List ℕ) → barred t w (Put f) ≡ false → Stands (side_on m t w (Put f) o room fs)

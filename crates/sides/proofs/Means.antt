@@ -17,7 +17,7 @@ use Rattle.contents.specs.Frames.{flat, held}
 use Rattle.contents.proofs.Shape.{Sound, Within}
 use Rattle.contents.proofs.Offsets.{within_held}
 use Rattle.owners.specs.Owners.{OwnerTable, owns, quota_of}
-use Rattle.book.specs.declared.Answer.TheVariants.{Done}
+use Rattle.std.specs.Prelude.{Ok}
 use Rattle.book.specs.Plain.{Turn, ask_on, become, frame_of, placed, put_on, refuse, remove_on, tell, without}
 use Rattle.book.proofs.Placed.{placed-sound}
 use Rattle.sides.specs.Parts.{chosen, part_of, rest_of, within_quotas}
@@ -52,9 +52,9 @@ module _ (m : ℕ) (t : OwnerTable) (w room : ℕ) (fs : List (List ℕ)) (may :
   tell-means x o = go (leb (length x) (length o))
     where
       go : (y : Bool)
-          → amid (cond {A = Turn} y (record { answer = Done (length x); output = x ++ drop (length x) o; frames = part_of t w fs })
+          → amid (cond {A = Turn} y (record { answer = Ok (length x); output = x ++ drop (length x) o; frames = part_of t w fs })
           (refuse OutputShort o (part_of t w fs))) fs fs
-          ≡ cond {A = Turn} y (record { answer = Done (length x); output = x ++ drop (length x) o; frames = fs }) (refuse OutputShort o fs)
+          ≡ cond {A = Turn} y (record { answer = Ok (length x); output = x ++ drop (length x) o; frames = fs }) (refuse OutputShort o fs)
       go true = refl
       go false = refl
 

@@ -17,7 +17,7 @@ use Rattle.reel.specs.declared.Cursor.{Cursor}
 use Rattle.reel.specs.Reel.{Unreeled, reel_of, unreel}
 use Rattle.reel.proofs.Reels.{reel-again, unreel-nil}
 use Rattle.reel.proofs.Found.{Whole}
-use Rattle.book.specs.declared.Answer.TheVariants.{Done, Refused}
+use Rattle.std.specs.Prelude.{Ok, Err}
 use Rattle.sides.specs.Parts.{chosen}
 use Rattle.sides.specs.Means.{Retold, picked}
 
@@ -137,10 +137,10 @@ module _ (x o part : List ℕ) (n : ℕ) (text : take n part ≡ x) (fits : n �
       less : n - 0 ≡ n
       less = omega arith
 
-  pub give-done : (y : List ℕ) → n ≤ length o → y ≡ written o 0 (take (n - 0) part) → Retold x o (Done n) y
+  pub give-done : (y : List ℕ) → n ≤ length o → y ≡ written o 0 (take (n - 0) part) → Retold x o (Ok n) y
   give-done y h e =
       let in-room : leb (length x) (length o) ≡ true = le-leb (length x) (length o) (omega (arith, count)) in (
-        ap Done count ∙ sym (rw in-room refl),
+        ap Ok count ∙ sym (rw in-room refl),
         e ∙ ap (written o 0) lent ∙ written-fits o 0 x (omega (arith, count)) ∙ ap₂ (λ (c : List ℕ) (k : ℕ). c ++ drop k o) (take-length x) none
             ∙ sym (rw in-room refl),
       )
@@ -148,7 +148,7 @@ module _ (x o part : List ℕ) (n : ℕ) (text : take n part ≡ x) (fits : n �
       none : 0 + length x ≡ length x
       none = omega arith
 
-  pub give-short : length o < n → Retold x o (Refused OutputShort) o
+  pub give-short : length o < n → Retold x o (Err OutputShort) o
   give-short h =
       let short : leb (length x) (length o) ≡ false = lt-leb (length x) (length o) (omega (arith, count)) in
       (sym (rw short refl), sym (rw short refl))

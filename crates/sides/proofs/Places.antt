@@ -12,7 +12,7 @@ use Rattle.refusal.specs.Numbers.{number_of, place_of}
 use Rattle.contents.specs.Contents.{refused}
 use Rattle.contents.proofs.Places.{judge-own}
 use Rattle.owners.specs.Owners.{OwnerTable, quota_of}
-use Rattle.book.specs.declared.Answer.TheVariants.{Refused}
+use Rattle.std.specs.Prelude.{Err}
 use Rattle.book.specs.Plain.{refuse}
 use Rattle.book.specs.Book.{Use, layout_in, opened_for}
 use Rattle.book.specs.History.{Call, after}
@@ -43,7 +43,7 @@ module _ (P : Refusal → Type 0) (S : Steps P) where
         (λ o room fs. side-says (layout_in b).slots t c.who c.what o room fs)
     event-says b own size t (Whole c) = after-says P S b own size c
 
-pub side-place : (b : List ℕ) (t : OwnerTable) (w : ℕ) (c : Request) (o : List ℕ) (x : Refusal) → (side_call t w c o b).answer ≡ Refused x → place_of x ≤ 12
+pub side-place : (b : List ℕ) (t : OwnerTable) (w : ℕ) (c : Request) (o : List ℕ) (x : Refusal) → (side_call t w c o b).answer ≡ Err x → place_of x ≤ 12
 side-place b t w c o x e = subst (Says Near) e (event-says Near steps-near (omega arith) (omega arith) b (opened_for-near b) (omega arith) t (by w c o))
 
 -- ---- the whole book
@@ -52,7 +52,7 @@ abbrev Own : Refusal → Type 0
 Own x = number_of x ≤ 16
 
 -- A CALL OF THE WHOLE BOOK IS NEVER REFUSED BY 17 OR 18, whatever the bytes are
-pub whole-own : (b : List ℕ) (c : Call) (x : Refusal) → (after c b).answer ≡ Refused x → number_of x ≤ 16
+pub whole-own : (b : List ℕ) (c : Call) (x : Refusal) → (after c b).answer ≡ Err x → number_of x ≤ 16
 whole-own b c x e =
     subst (Says Own) e
     (after-says Own (steps_low 16 (omega arith)) b (opened_for-says Own (omega arith) b (λ y w. omega (arith, (judge-own (layout_in b) b y w).1))) (omega arith) c)

@@ -10,9 +10,8 @@ use Rattle.settings.proofs.Settings.{both}
 use Rattle.contents.specs.Contents.{Contents, holds, refused}
 use Rattle.contents.proofs.Judged.{Bytes}
 use Rattle.owners.specs.Owners.{OwnerTable}
-use Rattle.book.specs.declared.Answer.{Answer}
-use Rattle.book.specs.declared.Answer.TheVariants.{Done, Refused}
-use Rattle.book.specs.Plain.{refuse}
+use Rattle.std.specs.Prelude.{Ok, Err}
+use Rattle.book.specs.Plain.{refuse, Answer}
 use Rattle.book.specs.Book.{Edit, Outcome, Read, call_for, layout_in, opened_for, room_in, to_read}
 use Rattle.book.specs.History as whole
 use Rattle.book.proofs.Reading.{stays}
@@ -41,8 +40,8 @@ module _ (t : OwnerTable) (w : ℕ) where
   reads-keep m c r o room fs = go (may_call m t w room (part_of t 1 fs) (part_of t 2 fs))
     where
       left : (a : Answer) → if_accepted a (edited t w c fs) fs ≡ fs
-      left (Done n) = unedited c r fs
-      left (Refused x) = refl
+      left (Ok n) = unedited c r fs
+      left (Err x) = refl
 
       go : (y : Bool) → (cond y (amid (own_turn t w c o (part_of t w fs)) (edited t w c fs) fs) (refuse OwnersWrong o fs)).frames ≡ fs
       go true = left (own_turn t w c o (part_of t w fs)).answer

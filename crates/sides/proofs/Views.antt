@@ -19,9 +19,8 @@ use Rattle.contents.proofs.Shape.{Sound}
 use Rattle.owners.specs.Owners.{OwnerTable, is_side, owns, quota_of, table_right}
 use Rattle.settings.proofs.Settings.{both}
 use Rattle.owners.proofs.Laws.{OneOwner, Right, owns-once, owns-other, second-owner, table-right}
-use Rattle.book.specs.declared.Answer.{Answer}
-use Rattle.book.specs.declared.Answer.TheVariants.{Done, Refused}
-use Rattle.book.specs.Plain.{Turn, ask_on, become, clear_on, frame_of, placed, put_on, refuse, remove_on, replay_on, tell, without}
+use Rattle.std.specs.Prelude.{Ok, Err}
+use Rattle.book.specs.Plain.{Turn, ask_on, become, clear_on, frame_of, placed, put_on, refuse, remove_on, replay_on, tell, without, Answer}
 use Rattle.sides.specs.Parts.{part_of, rest_of, within_quotas}
 use Rattle.sides.specs.Calls.{Ask, Clear, Put, Remove, Replay, Request, amid, barred, edited, foreign, if_accepted, may_call, own_turn, side_on, step_of}
 use Rattle.sides.proofs.Parts.{chosen-all, chosen_none, chosen-placed, chosen-placed-out, chosen-same, chosen-without, chosen-without-out, flat-parts}
@@ -61,7 +60,7 @@ Leaves x gs fs = x.frames ≡ if_accepted x.answer gs fs
 tell-leaves : (x o : List ℕ) (gs : List (List ℕ)) → Leaves (tell x o gs) gs gs
 tell-leaves x o gs = go (leb (length x) (length o))
   where
-    go : (u : Bool) → Leaves (cond {A = Turn} u (record { answer = Done (length x); output = x ++ drop (length x) o; frames = gs })
+    go : (u : Bool) → Leaves (cond {A = Turn} u (record { answer = Ok (length x); output = x ++ drop (length x) o; frames = gs })
         (refuse OutputShort o gs)) gs gs
     go true = refl
     go false = refl
@@ -136,8 +135,8 @@ module _ (t : OwnerTable) (w : ℕ) where
     own-leaves c = go (barred t w c) refl
       where
         part : (a : Answer) (gs : List (List ℕ)) → part_of t w (if_accepted a gs fs) ≡ if_accepted a (part_of t w gs) (part_of t w fs)
-        part (Done n) gs = refl
-        part (Refused x) gs = refl
+        part (Ok n) gs = refl
+        part (Err x) gs = refl
 
         go : (u : Bool) → barred t w c ≡ u
             → part_of t w (if_accepted (cond u (refuse OtherSide o (part_of t w fs)) (step_of c o (quota_of t w) (part_of t w fs))).answer (edited t w c fs) fs)
@@ -189,19 +188,19 @@ module _ (t : OwnerTable) (w v : ℕ) (apart : v ≡ w → ⊥) where
     step-apart (Ask k) h = same (ask_on k o room gs).answer
       where
         same : (a : Answer) → part_of t w (if_accepted a fs fs) ≡ part_of t w fs
-        same (Done n) = refl
-        same (Refused x) = refl
+        same (Ok n) = refl
+        same (Err x) = refl
     step-apart Clear h = go (clear_on o room gs).answer
       where
         go : (a : Answer) → part_of t w (if_accepted a (rest_of t v fs) fs) ≡ part_of t w fs
-        go (Done n) =
+        go (Ok n) =
             chosen-all (owns t.owners w) (λ s. not (owns t.owners v s)) (λ s e. owns-once t.owners v w apart s (not-false (owns t.owners v s) e)) fs
-        go (Refused x) = refl
+        go (Err x) = refl
     step-apart Replay h = same (replay_on o room gs).answer
       where
         same : (a : Answer) → part_of t w (if_accepted a fs fs) ≡ part_of t w fs
-        same (Done n) = refl
-        same (Refused x) = refl
+        same (Ok n) = refl
+        same (Err x) = refl
 
   -- A call of one side leaves the part of every other, whatever it is and however it ends.
   pub side-apart : (m room : ℕ) (c : Request) (o : List ℕ) (fs : List (List ℕ)) → part_of t w (side_on m t v c o room fs).frames ≡ part_of t w fs

@@ -1,13 +1,11 @@
 -- A side's calls: on its own plain list, and on the joint list of both sides' frames (REFERENCE, "Two sides").
 -- Assumes nothing.
-use Rattle.std.specs.Prelude.{ℕ, Bool, false, cond, not, ◌&&◌, List, ltb, length}
+use Rattle.std.specs.Prelude.{ℕ, Bool, false, cond, not, ◌&&◌, List, ltb, length, Ok, Err}
 use Rattle.refusal.specs.declared.Refusal.TheVariants.{OwnersWrong, OtherSide}
 use Rattle.table.specs.Table.{action, settings}
 use Rattle.settings.specs.Settings.{slot_for, slot_of}
 use Rattle.owners.specs.Owners.{OwnerTable, is_side, owns, quota_of, table_right}
-use Rattle.book.specs.declared.Answer.{Answer}
-use Rattle.book.specs.declared.Answer.TheVariants.{Done, Refused}
-use Rattle.book.specs.Plain.{Turn, ask_on, clear_on, placed, put_on, refuse, remove_on, replay_on, without}
+use Rattle.book.specs.Plain.{Turn, ask_on, clear_on, placed, put_on, refuse, remove_on, replay_on, without, Answer}
 use Rattle.book.specs.Book.{Edit, Outcome, Read, Use, call_for, layout_in}
 use Rattle.sides.specs.Parts.{part_of, rest_of, within_quotas}
 
@@ -61,8 +59,8 @@ edited t w Clear fs = rest_of t w fs
 edited t w Replay fs = fs
 
 abbrev pub if_accepted : Answer → List (List ℕ) → List (List ℕ) → List (List ℕ)
-if_accepted (Done n) gs fs = gs
-if_accepted (Refused x) gs fs = fs
+if_accepted (Ok n) gs fs = gs
+if_accepted (Err x) gs fs = fs
 
 -- the turn of a side's own list, carried out among all frames
 abbrev pub amid : Turn → List (List ℕ) → List (List ℕ) → Turn

@@ -1,13 +1,11 @@
 -- A shared book's history: calls of both sides and of the whole book, in any order. On bytes, on the joint list, and on two plain lists, one for
 -- each side (REFERENCE, "Two sides").
 -- Assumes nothing.
-use Rattle.std.specs.Prelude.{ℕ, Bool, true, false, cond, ◌&&◌, List, [], ◌∷◌, eqb}
+use Rattle.std.specs.Prelude.{ℕ, Bool, true, false, cond, ◌&&◌, List, [], ◌∷◌, eqb, Ok, Err}
 use Rattle.refusal.specs.declared.Refusal.TheVariants.{OwnersWrong}
 use Rattle.settings.specs.Settings.{slot_for, slot_of}
 use Rattle.owners.specs.Owners.{OwnerTable, is_side, owns, table_right}
-use Rattle.book.specs.declared.Answer.{Answer}
-use Rattle.book.specs.declared.Answer.TheVariants.{Done, Refused}
-use Rattle.book.specs.Plain.{Turn, placed, refuse, without}
+use Rattle.book.specs.Plain.{Turn, placed, refuse, without, Answer}
 use Rattle.book.specs.Book.{Outcome}
 use Rattle.book.specs.History.{Ask, Call, Clear, Heard, Make, Put, Remove, Replay, after, is_read, turn}
 use Rattle.sides.specs.Calls.{Request, may_call, own_turn, side_call, side_on}
@@ -40,8 +38,8 @@ shared t w Clear gs = []
 shared t w (Replay o) gs = gs
 
 abbrev pub shared_by : OwnerTable → Answer → ℕ → Call → List (List ℕ) → List (List ℕ)
-shared_by t (Done n) w c gs = shared t w c gs
-shared_by t (Refused x) w c gs = gs
+shared_by t (Ok n) w c gs = shared t w c gs
+shared_by t (Err x) w c gs = gs
 
 -- what a turn says
 abbrev pub heard_of : Turn → Heard

@@ -1,7 +1,7 @@
 -- The code's own notions: a side's bytes as a header tells them, a refusal that comes behind the book's own, a clear made of the book's removals,
 -- and a part of a reel.
 -- Assumes nothing.
-use Rattle.std.specs.Prelude.{ℕ, zero, suc, ◌+◌, ◌-◌, ◌≡◌, Bool, cond, ◌&&◌, List, [], leb}
+use Rattle.std.specs.Prelude.{ℕ, zero, suc, ◌+◌, ◌-◌, ◌≡◌, Bool, cond, ◌&&◌, List, [], leb, Ok, Err}
 use Rattle.refusal.specs.declared.Refusal.{Refusal}
 use Rattle.table.specs.Table.{settings}
 use Rattle.settings.specs.Settings.{size_of, slot_for}
@@ -9,9 +9,7 @@ use Rattle.contents.specs.Contents.{present_for}
 use Rattle.forms.specs.Forms.{other}
 use Rattle.owners.specs.Owners.{OwnerTable, is_side, owns, table_right}
 use Rattle.reel.specs.Reel.{reel_of, unreel}
-use Rattle.book.specs.declared.Answer.{Answer}
-use Rattle.book.specs.declared.Answer.TheVariants.{Done, Refused}
-use Rattle.book.specs.Plain.{remove_on, tell}
+use Rattle.book.specs.Plain.{remove_on, tell, Answer}
 use Rattle.book.specs.Book.{Edit, call_for}
 use Rattle.sides.specs.Parts.{chosen}
 
@@ -33,8 +31,8 @@ may_read m t w room b =
 
 -- a refusal behind what a book was found to be: it stands where the book has none of its own
 abbrev pub behind : Answer → Refusal → Answer
-behind (Done n) why = Refused why
-behind (Refused x) why = Refused x
+behind (Ok n) why = Err why
+behind (Err x) why = Err x
 
 -- ---- a clear
 

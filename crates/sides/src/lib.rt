@@ -13,7 +13,7 @@ ghost use Rattle.book.specs.Plain.{remove_on};
 ghost use Rattle.book.specs.Book.{call_for, Edit, layout_in, longest_reel, Permits, room_in, Tells};
 ghost use Rattle.sides.specs.Calls.{Request, foreign};
 ghost use Rattle.sides.specs.Histories.{after_event, by};
-ghost use Rattle.sides.specs.Means.{behind, emptied_bytes, may_read, picked, Retold, weight_after, weight_from};
+ghost use Rattle.sides.specs.Means.{emptied_bytes, may_read, picked, Retold, weight_after, weight_from};
 
 use book::Answer;
 use owners::owner_of;
@@ -68,12 +68,10 @@ fn weigh(book: &[u8], owners: &[u8], slots: usize) -> Weights
 {
     let mut first: usize = 0;
     let mut second: usize = 0;
-    let mut s: usize = 0;
-    while s < table::SETTINGS {
+    for s in 0..table::SETTINGS {
         let more = slot_weights(book, owners, slots, s);
         first += more.first;
         second += more.second;
-        s += 1;
     }
     Weights { first, second }
 }
@@ -81,10 +79,7 @@ fn weigh(book: &[u8], owners: &[u8], slots: usize) -> Weights
 fn of_side(both: Weights, side: u64) -> usize
     ensures { result ≡ cond (eqb side 1) both.first both.second }
 {
-    if side == 1 {
-        return both.first;
-    }
-    both.second
+    if side == 1 { both.first } else { both.second }
 }
 
 // How many bytes of frames a buffer of that length has room for, behind a header of so many slots.
@@ -105,27 +100,17 @@ fn may_call(book: &[u8], owners: &[u8], quota1: u64, quota2: u64, caller: u64) -
         (room_in book.now) book.now }
 {
     let slots = book::slots_in(book);
-    if owners::is_right(owners, slots, room_in(book.len(), slots), quota1, quota2) {
-        if owners::is_side(caller) {
-            let held = weigh(book, owners, slots);
-            if held.first as u64 <= quota1 {
-                return held.second as u64 <= quota2;
-            }
-            return false;
-        }
+    if !owners::is_right(owners, slots, room_in(book.len(), slots), quota1, quota2) {
         return false;
     }
-    false
-}
-
-// A refusal of a side's own, behind what the book was found to be: its own come first.
-fn refused(found: Answer, why: Refusal) -> Answer
-    ensures { result ≡ behind found why }
-{
-    let Answer::Done(_) = found else {
-        return found;
-    };
-    Answer::Refused(why)
+    if !owners::is_side(caller) {
+        return false;
+    }
+    let held = weigh(book, owners, slots);
+    if held.first as u64 > quota1 {
+        return false;
+    }
+    held.second as u64 <= quota2
 }
 
 // The slot that an ask names, if the table has an entry for it; else the mark of an action.
@@ -149,7 +134,7 @@ fn is_foreign(owners: &[u8], side: u64, slot: usize) -> bool
     false
 }
 
-// ---- put, remove and ask: past a side's own refusals they are the book's
+// ---- put, remove and ask: past a side's own refusals they are the book's, and its refusals of a whole book come before them
 
 // How many bytes the frames of a side have once n bytes are put to a slot of its own: they may take the place of either form.
 fn weight_after(book: &[u8], slots: usize, slot: usize, held: usize, n: usize) -> usize
@@ -183,24 +168,24 @@ pub fn put(
         book.old)
         result book.new }
 {
-    if may_call(book, owners, quota1, quota2, caller) {
-        let slot = settings::slot_of(frame);
-        if is_foreign(owners, caller, slot) {
-            return refused(book::ready_to_edit(book), Refusal::OtherSide);
-        }
-        if slot < table::SETTINGS {
-            let slots = book::slots_in(book);
-            let held = of_side(weigh(book, owners, slots), caller);
-            if weight_after(book, slots, slot, held, frame.len()) as u64
-                <= owners::quota_of(quota1, quota2, caller)
-            {
-                return book::put(book, frame);
-            }
-            return refused(book::ready_to_edit(book), Refusal::NoRoom);
-        }
+    if !may_call(book, owners, quota1, quota2, caller) {
+        return book::ready_to_edit(book).and(Err(Refusal::OwnersWrong));
+    }
+    let slot = settings::slot_of(frame);
+    if is_foreign(owners, caller, slot) {
+        return book::ready_to_edit(book).and(Err(Refusal::OtherSide));
+    }
+    if slot >= table::SETTINGS {
         return book::put(book, frame);
     }
-    refused(book::ready_to_edit(book), Refusal::OwnersWrong)
+    let slots = book::slots_in(book);
+    let held = of_side(weigh(book, owners, slots), caller);
+    if weight_after(book, slots, slot, held, frame.len()) as u64
+        > owners::quota_of(quota1, quota2, caller)
+    {
+        return book::ready_to_edit(book).and(Err(Refusal::NoRoom));
+    }
+    book::put(book, frame)
 }
 
 // A side's removal of a kind.
@@ -215,13 +200,13 @@ pub fn remove(
     ensures { Permits (after_event (owner_table owners.now quota1 quota2) (by caller (Request.Remove kind) []) book.old)
         result book.new }
 {
-    if may_call(book, owners, quota1, quota2, caller) {
-        if is_foreign(owners, caller, slot_for(kind)) {
-            return refused(book::ready_to_edit(book), Refusal::OtherSide);
-        }
-        return book::remove(book, kind);
+    if !may_call(book, owners, quota1, quota2, caller) {
+        return book::ready_to_edit(book).and(Err(Refusal::OwnersWrong));
     }
-    refused(book::ready_to_edit(book), Refusal::OwnersWrong)
+    if is_foreign(owners, caller, slot_for(kind)) {
+        return book::ready_to_edit(book).and(Err(Refusal::OtherSide));
+    }
+    book::remove(book, kind)
 }
 
 // A side's question for a kind's frame.
@@ -238,13 +223,13 @@ pub fn ask(
         book.now)
         result out.new }
 {
-    if may_call(book, owners, quota1, quota2, caller) {
-        if is_foreign(owners, caller, asked_slot(owners, kind)) {
-            return refused(book::ready_to_read(book), Refusal::OtherSide);
-        }
-        return book::ask(book, kind, out);
+    if !may_call(book, owners, quota1, quota2, caller) {
+        return book::ready_to_read(book).and(Err(Refusal::OwnersWrong));
     }
-    refused(book::ready_to_read(book), Refusal::OwnersWrong)
+    if is_foreign(owners, caller, asked_slot(owners, kind)) {
+        return book::ready_to_read(book).and(Err(Refusal::OtherSide));
+    }
+    book::ask(book, kind, out)
 }
 
 // ---- clear
@@ -255,10 +240,8 @@ fn take_out(book: &mut [u8], owners: &[u8], side: u64, k: u64)
         book.old }
 {
     let slot = slot_for(k);
-    if owner_of(owners, slot) == side {
-        if contents::offset(book, slot) != 0 {
-            book::remove(book, k);
-        }
+    if owner_of(owners, slot) == side && contents::offset(book, slot) != 0 {
+        let _removed = book::remove(book, k);
     }
 }
 
@@ -266,10 +249,8 @@ fn take_out(book: &mut [u8], owners: &[u8], side: u64, k: u64)
 fn take_all_out(book: &mut [u8], owners: &[u8], side: u64)
     ensures { book.new ≡ emptied_bytes (owns owners.now side) kinds 1 book.old }
 {
-    let mut k: u64 = 1;
-    while k <= table::KINDS {
+    for k in 1..table::KINDS + 1 {
         take_out(book, owners, side, k);
-        k += 1;
     }
 }
 
@@ -278,15 +259,12 @@ pub fn clear(book: &mut [u8], owners: &[u8], quota1: u64, quota2: u64, caller: u
     ensures { Permits (after_event (owner_table owners.now quota1 quota2) (by caller Request.Clear []) book.old)
         result book.new }
 {
-    let found = book::ready_to_edit(book);
-    let Answer::Done(_) = found else {
-        return found;
-    };
-    if may_call(book, owners, quota1, quota2, caller) {
-        take_all_out(book, owners, caller);
-        return Answer::Done(0);
+    book::ready_to_edit(book)?;
+    if !may_call(book, owners, quota1, quota2, caller) {
+        return Err(Refusal::OwnersWrong);
     }
-    Answer::Refused(Refusal::OwnersWrong)
+    take_all_out(book, owners, caller);
+    Ok(0)
 }
 
 // ---- replay
@@ -334,11 +312,11 @@ fn tell_part(owners: &[u8], side: u64, reel: &[u8], out: &mut [u8]) -> Answer
 {
     let mut part = [0u8; book::LONGEST_REEL];
     let n = pick(owners, side, reel, &mut part);
-    if n <= out.len() {
-        spans::write(out, 0, &part[0..n]);
-        return Answer::Done(n);
+    if n > out.len() {
+        return Err(Refusal::OutputShort);
     }
-    Answer::Refused(Refusal::OutputShort)
+    spans::write(out, 0, &part[0..n]);
+    Ok(n)
 }
 
 // A side's replay: its frames in the order of first entry. The whole replay has every frame, and fits its buffer whatever the book holds.
@@ -353,13 +331,10 @@ pub fn replay(
     ensures { Tells (after_event (owner_table owners.now quota1 quota2) (by caller Request.Replay out.old) book.now)
         result out.new }
 {
-    if may_call(book, owners, quota1, quota2, caller) {
-        let mut reel = [0u8; book::LONGEST_REEL];
-        let told = book::replay(book, &mut reel);
-        let Answer::Done(n) = told else {
-            return told;
-        };
-        return tell_part(owners, caller, &reel[0..n], out);
+    if !may_call(book, owners, quota1, quota2, caller) {
+        return book::ready_to_read(book).and(Err(Refusal::OwnersWrong));
     }
-    refused(book::ready_to_read(book), Refusal::OwnersWrong)
+    let mut reel = [0u8; book::LONGEST_REEL];
+    let n = book::replay(book, &mut reel)?;
+    tell_part(owners, caller, &reel[0..n], out)
 }

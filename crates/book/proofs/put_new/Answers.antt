@@ -71,13 +71,13 @@ swap-requires c =
       omega (arith, held-within ours _ bytes h _ _ new.twin-among new.stands c.if-at-ne0.true, new.ends, z.0),
       omega (arith, r.high, new.ends),
       omega (arith, r.big),
-      omega (arith, c.if-frame-book.true, twin-size ours _ bytes h _ _ _ _ _ new c.if-at-ne0.true, z.0, r.high, new.ends),
+      omega (arith, c.if-frame-book.false, twin-size ours _ bytes h _ _ _ _ _ new c.if-at-ne0.true, z.0, r.high, new.ends),
       new.among,
       low-offsets ours _ bytes h,
     )
 
-pub returns-then-frame-book : goal.returns-then-frame-book
-returns-then-frame-book c =
+pub returns-then-at-ne0 : goal.returns-then-at-ne0
+returns-then-at-ne0 c =
     let bytes : Bytes c.args.book.now = λ i. (c.slice_known-1.given i).fits in
     let known : Holds ours c.args.book.now = opened-holds ours _ 0 c.requires.0 in
     let new : New ours c.args.book.now c.args.frame.now c.args.slot c.other_form-twin.result c.offset-at.result c.word-e.result = let p = c.requires in
@@ -96,12 +96,12 @@ returns-then-frame-book c =
     let a = c.args in
     permits _ _ _ _
     (put-swap ours _ bytes known _ _ _ _ _ new c.if-at-ne0.true _
-    (omega (arith, c.if-frame-book.true, z))
+    (omega (arith, c.if-frame-book.false, z))
     (c.swap.ensures
     ∙ ap (λ (x : ℕ). swapped ours.slots a.book.now c.offset-at.result x a.frame.now a.slot c.word-e.result) z))
 
-pub returns-then-at-ne0 : goal.returns-then-at-ne0
-returns-then-at-ne0 c =
+pub returns-then-frame-book : goal.returns-then-frame-book
+returns-then-frame-book c =
     let bytes : Bytes c.args.book.now = λ i. (c.slice_known-1.given i).fits in
     let known : Holds ours c.args.book.now = opened-holds ours _ 0 c.requires.0 in
     let new : New ours c.args.book.now c.args.frame.now c.args.slot c.other_form-twin.result c.offset-at.result c.word-e.result = let p = c.requires in
@@ -117,7 +117,7 @@ returns-then-at-ne0 c =
       ends = c.word-e.ensures.0;
     } in
     permits _ _ _ _
-    (put-tight ours _ bytes known _ _ _ _ _ new c.if-at-ne0.true (omega (arith, c.if-frame-book.false, c.size_of-old.ensures.0)))
+    (put-tight ours _ bytes known _ _ _ _ _ new c.if-at-ne0.true (omega (arith, c.if-frame-book.true, c.size_of-old.ensures.0)))
 
 pub overflow_sub-book-2 : goal.overflow_sub-book-2
 overflow_sub-book-2 c =

@@ -7,8 +7,5 @@ use Rattle.book.proofs.write_reel.Given as goal
 
 abbrev pub invariant-loop-i : goal.invariant-loop-i
 invariant-loop-i l =
-    (l.i ≤ l.c) × (l.p ≤ l.e) × (length l.out ≡ length l.initial.out) × (l.w + (l.e - l.p) + (l.c - l.i) ≤ length l.initial.out) × (reel_from l.slots l.c l.b (start l.slots)
-    l.e 0 l.initial.out ≡ reel_from l.slots (l.c - l.i) l.b l.p l.e l.w l.out) × Tiles l.slots (l.c - l.i) l.b l.p l.e
-
-abbrev pub decreases-loop-i : goal.decreases-loop-i
-decreases-loop-i l = l.c - l.i
+    (l.p ≤ l.e) × (length l.out ≡ length l.initial.out) × (l.w + (l.e - l.p) + (l.c - l._i) ≤ length l.initial.out) × (reel_from l.slots l.c l.b (start l.slots)
+    l.e 0 l.initial.out ≡ reel_from l.slots (l.c - l._i) l.b l.p l.e l.w l.out) × Tiles l.slots (l.c - l._i) l.b l.p l.e

@@ -1,7 +1,8 @@
-use mathlib.Core.Path.{ap, ap₂, sym, ◌∙◌}
+use lib.ListN.{drop, get_or}
+use mathlib.Core.Path.{ap, sym, ◌∙◌}
 use Prim.Native.Nat.{ℕ}
 use native.Mathlib.Omega.{arith}
-use Rattle.contents.specs.Contents.{frames_from, layout, start, verdict_of}
+use Rattle.contents.specs.Contents.{all_zero, frames_from, layout, start, verdict_of}
 use Rattle.contents.proofs.Loops.{judge-all, judge-count, judge-high, judge-long, judge-low, judge-many, judge-short, judge-tail, judge-version}
 use Rattle.contents.proofs.check.Goals as goal
 
@@ -39,19 +40,18 @@ pub returns-then-present-c : goal.returns-then-present-c
 returns-then-present-c c =
     let a = c.args in
     ap verdict_of (sym (judge-count (layout a.version a.slots) a.b.now (omega arith) (omega arith) (omega arith) (omega arith) (omega arith)
-    (λ x. c.if-present-c.true (c.present.ensures ∙ x ∙ sym c.byte_to_usize-c.ensures.0))))
-
-pub returns-then-tail_zero : goal.returns-then-tail_zero
-returns-then-tail_zero c =
-    let a = c.args in
-    let b = a.b.now in
-    c.tiles.ensures
-    ∙ ap₂ (λ (n e : ℕ). verdict_of (frames_from a.slots n b (start a.slots) e)) c.byte_to_usize-c.ensures.0
-    c.word-e.ensures.0
-    ∙ ap verdict_of (sym (judge-all (layout a.version a.slots) b (omega arith) (omega arith) (omega arith) (omega arith) (omega arith) (omega arith) (cc)))
+    (λ x. c.if-present-c.true (c.present.ensures ∙ x))))
 
 pub returns : goal.returns
 returns c =
     let a = c.args in
+    let b = a.b.now in
+    c.tiles.ensures
+    ∙ ap (λ (e : ℕ). verdict_of (frames_from a.slots (get_or b 1 0) b (start a.slots) e)) c.word-e.ensures.0
+    ∙ ap verdict_of (sym (judge-all (layout a.version a.slots) b (omega arith) (omega arith) (omega arith) (omega arith) (omega arith) (omega arith) (ap (λ (x : ℕ). all_zero (drop x a.b.now)) (sym c.word-e.ensures.0) ∙ sym c.tail_zero.ensures ∙ c.if-not-tail_zero.false)))
+
+pub returns-then-not-tail_zero : goal.returns-then-not-tail_zero
+returns-then-not-tail_zero c =
+    let a = c.args in
     ap verdict_of (sym (judge-tail (layout a.version a.slots) a.b.now (omega arith) (omega arith) (omega arith) (omega arith) (omega arith)
-    (omega arith) (cc)))
+    (omega arith) (ap (λ (x : ℕ). all_zero (drop x a.b.now)) (sym c.word-e.ensures.0) ∙ sym c.tail_zero.ensures ∙ c.if-not-tail_zero.true)))

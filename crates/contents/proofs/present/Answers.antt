@@ -10,20 +10,18 @@ loop-s-preserved c =
     elim c.if-offset_in-ne0.branch [
       | then-offset_in-ne0 w ↦ (
         omega arith,
-        omega arith,
         omega (
           arith,
-          c.loop-s.invariant.2,
+          c.loop-s.invariant.1,
           present_from-some c.args.slots b c.loop-s.s
               c.loop-s-test.true (λ e. w.if-offset_in-ne0.true (c.offset_in.ensures.0 ∙ e)),
         ),
       )
       | else-offset_in-ne0 w ↦ (
         omega arith,
-        omega arith,
         omega (
           arith,
-          c.loop-s.invariant.2,
+          c.loop-s.invariant.1,
           present_from-none c.args.slots b c.loop-s.s
               c.loop-s-test.true (sym c.offset_in.ensures.0 ∙ w.if-offset_in-ne0.false),
         ),
@@ -33,7 +31,7 @@ loop-s-preserved c =
 pub returns : goal.returns
 returns c = omega (
   arith,
-  c.loop-s.invariant.2,
+  c.loop-s.invariant.1,
   present_from-end c.args.slots c.args.b.now
       c.loop-s.s c.loop-s-test.false,
 )

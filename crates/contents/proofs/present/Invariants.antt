@@ -4,7 +4,4 @@ use Rattle.contents.specs.Contents.{present_from}
 use Rattle.contents.proofs.present.Given as goal
 
 abbrev pub invariant-loop-s : goal.invariant-loop-s
-invariant-loop-s l = (l.s ≤ l.slots) × (l.n ≤ l.s) × (present_from l.slots l.b 0 ≡ l.n + present_from (l.slots - l.s) l.b l.s)
-
-abbrev pub decreases-loop-s : goal.decreases-loop-s
-decreases-loop-s l = l.slots - l.s
+invariant-loop-s l = (l.n ≤ l.s) × (present_from l.slots l.b 0 ≡ l.n + present_from (l.slots - l.s) l.b l.s)

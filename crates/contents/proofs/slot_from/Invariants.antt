@@ -1,10 +1,7 @@
 use mathlib.Core.Path.{◌≡◌}
-use Prim.Native.Nat.{◌-◌, ◌≤◌}
+use Prim.Native.Nat.{◌-◌}
 use Rattle.contents.specs.Contents.{slot_from}
 use Rattle.contents.proofs.slot_from.Given as goal
 
 abbrev pub invariant-loop-s : goal.invariant-loop-s
-invariant-loop-s l = (l.s ≤ l.slots) × (slot_from l.slots l.b l.p 0 ≡ slot_from (l.slots - l.s) l.b l.p l.s)
-
-abbrev pub decreases-loop-s : goal.decreases-loop-s
-decreases-loop-s l = l.slots - l.s
+invariant-loop-s l = slot_from l.slots l.b l.p 0 ≡ slot_from (l.slots - l.s) l.b l.p l.s

@@ -4,7 +4,4 @@ use Rattle.contents.specs.Contents.{frames_from, start, verdict_of}
 use Rattle.contents.proofs.tiles.Given as goal
 
 abbrev pub invariant-loop-i : goal.invariant-loop-i
-invariant-loop-i l = (l.i ≤ l.c) × (start l.slots ≤ l.p) × (l.p ≤ l.e) × (verdict_of (frames_from l.slots l.c l.b (start l.slots) l.e) ≡ verdict_of (frames_from l.slots (l.c - l.i) l.b l.p l.e))
-
-abbrev pub decreases-loop-i : goal.decreases-loop-i
-decreases-loop-i l = l.c - l.i
+invariant-loop-i l = (start l.slots ≤ l.p) × (l.p ≤ l.e) × (verdict_of (frames_from l.slots l.c l.b (start l.slots) l.e) ≡ verdict_of (frames_from l.slots (l.c - l._i) l.b l.p l.e))

@@ -10,17 +10,17 @@ use Rattle.controller.proofs.hear.Goals as goal
 
 pub slice_bounds-heard-end : goal.slice_bounds-heard-end
 slice_bounds-heard-end c =
-    let told : Replayed c.args.book.now c.replay-told.new.out c.in-Done.n = replay-told _ _ long _ _ _ c.replay-told.ensures.0 c.replay-told.ensures.1 c.in-Done.is in
+    let told : Replayed c.args.book.now c.replay-told.new.out c.in-Ok.n = replay-told _ _ long _ _ _ c.replay-told.ensures.0 c.replay-told.ensures.1 c.in-Ok.is in
     told.fits
 
-pub returns-in-Done : goal.returns-in-Done
-returns-in-Done c =
-    let told : Replayed c.args.book.now c.replay-told.new.out c.in-Done.n = replay-told _ _ long _ _ _ c.replay-told.ensures.0 c.replay-told.ensures.1 c.in-Done.is in
+pub returns-in-Ok : goal.returns-in-Ok
+returns-in-Ok c =
+    let told : Replayed c.args.book.now c.replay-told.new.out c.in-Ok.n = replay-told _ _ long _ _ _ c.replay-told.ensures.0 c.replay-told.ensures.1 c.in-Ok.is in
     hear-told _ _ _ told _ _ _ _ c.heard.ensures
     (c.goes_on-good.ensures ∙ ap goes_on (c.cmd.ensures ∙ ap (λ (s : Status). cmd_in s.0) c.from_slice.ensures))
 
-pub returns-in-Refused : goal.returns-in-Refused
-returns-in-Refused c =
+pub returns-in-Err : goal.returns-in-Err
+returns-in-Err c =
     let a = c.args in
     sym (ap (λ (q : Contents). heard_of q a.state (is_good a.status.now))
-    (replay-refused _ _ long _ _ c.replay-told.ensures.0 c.in-Refused.is))
+    (replay-refused _ _ long _ _ c.replay-told.ensures.0 c.in-Err.is))

@@ -8,16 +8,16 @@ use Rattle.controller.proofs.send.Goals as goal
 
 pub slice_bounds-to_send-end : goal.slice_bounds-to_send-end
 slice_bounds-to_send-end c =
-    let told : Replayed c.args.book.now c.replay-told.new.out c.in-Done.n = replay-told _ _ long _ _ _ c.replay-told.ensures.0 c.replay-told.ensures.1 c.in-Done.is in
+    let told : Replayed c.args.book.now c.replay-told.new.out c.in-Ok.n = replay-told _ _ long _ _ _ c.replay-told.ensures.0 c.replay-told.ensures.1 c.in-Ok.is in
     told.fits
 
-pub returns-in-Done : goal.returns-in-Done
-returns-in-Done c =
-    let told : Replayed c.args.book.now c.replay-told.new.out c.in-Done.n = replay-told _ _ long _ _ _ c.replay-told.ensures.0 c.replay-told.ensures.1 c.in-Done.is in
+pub returns-in-Ok : goal.returns-in-Ok
+returns-in-Ok c =
+    let told : Replayed c.args.book.now c.replay-told.new.out c.in-Ok.n = replay-told _ _ long _ _ _ c.replay-told.ensures.0 c.replay-told.ensures.1 c.in-Ok.is in
     send-told _ _ _ told _ _ c.to_send.ensures
 
-pub returns-in-Refused : goal.returns-in-Refused
-returns-in-Refused c =
+pub returns-in-Err : goal.returns-in-Err
+returns-in-Err c =
     c.empty.ensures
     ∙ sym (ap (λ (q : Contents). sending_of q c.args.state)
-    (replay-refused _ _ long _ _ c.replay-told.ensures.0 c.in-Refused.is))
+    (replay-refused _ _ long _ _ c.replay-told.ensures.0 c.in-Err.is))

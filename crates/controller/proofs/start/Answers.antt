@@ -7,14 +7,14 @@ use Rattle.controller.proofs.start.Goals as goal
 
 pub returns-then-n-eq0 : goal.returns-then-n-eq0
 returns-then-n-eq0 c =
-    let told : Replayed c.args.book.now c.replay-told.new.out c.in-Done.n = replay-told _ _ long _ _ _ c.replay-told.ensures.0 c.replay-told.ensures.1 c.in-Done.is in
+    let told : Replayed c.args.book.now c.replay-told.new.out c.in-Ok.n = replay-told _ _ long _ _ _ c.replay-told.ensures.0 c.replay-told.ensures.1 c.in-Ok.is in
     start-empty _ _ _ told c.if-n-eq0.true
 
 pub returns-else-n-eq0 : goal.returns-else-n-eq0
 returns-else-n-eq0 c =
-    let told : Replayed c.args.book.now c.replay-told.new.out c.in-Done.n = replay-told _ _ long _ _ _ c.replay-told.ensures.0 c.replay-told.ensures.1 c.in-Done.is in
+    let told : Replayed c.args.book.now c.replay-told.new.out c.in-Ok.n = replay-told _ _ long _ _ _ c.replay-told.ensures.0 c.replay-told.ensures.1 c.in-Ok.is in
     start-some _ _ _ told c.if-n-eq0.false
 
-pub returns-in-Refused : goal.returns-in-Refused
-returns-in-Refused c =
-    sym (ap start_of (replay-refused _ _ long _ _ c.replay-told.ensures.0 c.in-Refused.is))
+pub returns-in-Err : goal.returns-in-Err
+returns-in-Err c =
+    sym (ap start_of (replay-refused _ _ long _ _ c.replay-told.ensures.0 c.in-Err.is))

@@ -1,4 +1,4 @@
-use mathlib.Core.Path.{sym, ◌∙◌}
+use mathlib.Core.Path.{refl, sym, ◌∙◌}
 use native.Mathlib.Omega.{arith}
 use lib.ListN.{length}
 use Rattle.filling.proofs.Filling.{Room, append-made, appended_left, has_room_lem}
@@ -9,10 +9,10 @@ bounds-b-1 c =
     let room : let a = c.args in Room a.slots a.slot (length a.frame.now) a.b.now = has_room_lem _ _ _ _ (sym c.has_room.ensures ∙ c.if-has_room.true) in
     let R = room in omega (arith, R.small)
 
-pub overflow_cast-b : goal.overflow_cast-b
-overflow_cast-b c =
+pub overflow_add-b : goal.overflow_add-b
+overflow_add-b c =
     let room : let a = c.args in Room a.slots a.slot (length a.frame.now) a.b.now = has_room_lem _ _ _ _ (sym c.has_room.ensures ∙ c.if-has_room.true) in
-    omega (arith, room.few, c.byte_to_usize-c.ensures.0)
+    omega (arith, room.few)
 
 pub bounds-b-1-then-has_room : goal.bounds-b-1-then-has_room
 bounds-b-1-then-has_room c =
@@ -34,7 +34,7 @@ overflow_add-slot c =
 pub returns-then-has_room : goal.returns-then-has_room
 returns-then-has_room c =
     let room : let a = c.args in Room a.slots a.slot (length a.frame.now) a.b.now = has_room_lem _ _ _ _ (sym c.has_room.ensures ∙ c.if-has_room.true) in
-    append-made _ _ _ _ room _ _ c.word-e.ensures.0 c.byte_to_usize-c.ensures.0 _ _ _
+    append-made _ _ _ _ room _ _ c.word-e.ensures.0 refl _ _ _
     c.write.ensures c.put_word.ensures c.put_word-then-has_room.ensures
 
 pub returns-else-has_room : goal.returns-else-has_room

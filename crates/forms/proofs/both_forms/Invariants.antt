@@ -6,8 +6,5 @@ use Rattle.contents.specs.Contents.{present_for}
 use Rattle.forms.specs.Forms.{both_in, in_both}
 use Rattle.forms.proofs.both_forms.Given as goal
 
-abbrev pub invariant-loop-i : goal.invariant-loop-i
-invariant-loop-i l = (l.i ≤ length forms) × (in_both (present_for l.slots l.book) ≡ both_in (drop l.i forms) (present_for l.slots l.book))
-
-abbrev pub decreases-loop-i : goal.decreases-loop-i
-decreases-loop-i l = length forms - l.i
+abbrev pub invariant-loop-short : goal.invariant-loop-short
+invariant-loop-short l = in_both (present_for l.slots l.book) ≡ both_in (drop l.short-index forms) (present_for l.slots l.book)

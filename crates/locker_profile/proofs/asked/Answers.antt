@@ -6,23 +6,23 @@ use native.Mathlib.Omega.{arith}
 use borrow.Author.Rules.{rules}
 use lib.ListN.{take}
 use Rattle.decoder.specs.Decoding.{decode}
-use Rattle.book.specs.declared.Answer.TheVariants.{Done}
+use Rattle.std.specs.Prelude.{Ok}
 use Rattle.locker_profile.specs.Steps.{handed, withheld}
 use Rattle.locker_profile.proofs.Asking.{ask-held, ask-missing, ask-most}
 use Rattle.locker_profile.proofs.asked.Goals as goal
 
 pub slice_bounds-arguments_of-end : goal.slice_bounds-arguments_of-end
 slice_bounds-arguments_of-end c =
-    omega (arith, ask-most c.args.kind c.requires _ refl _ c.in-Done.n (sym c.in-Done.is ∙ c.ask-answer.ensures.0))
+    omega (arith, ask-most c.args.kind c.requires _ refl _ c.in-Ok.n (sym c.in-Ok.is ∙ c.ask-answer.ensures.0))
 
-pub returns-in-Done : goal.returns-in-Done
-returns-in-Done c =
-    let m = c.in-Done.n in
-    ap (λ (l : List ℕ). record { answer = Done m; args = l })
+pub returns-in-Ok : goal.returns-in-Ok
+returns-in-Ok c =
+    let m = c.in-Ok.n in
+    ap (λ (l : List ℕ). record { answer = Ok m; args = l })
     (c.arguments_of-args.ensures ∙ ap (λ (j : ℕ). handed (decode (take j c.ask-answer.new.out))) (sub-zero m))
-    ∙ ask-held _ c.requires _ refl _ m _ (sym c.in-Done.is ∙ c.ask-answer.ensures.0) c.ask-answer.ensures.1
+    ∙ ask-held _ c.requires _ refl _ m _ (sym c.in-Ok.is ∙ c.ask-answer.ensures.0) c.ask-answer.ensures.1
 
-pub returns-in-Refused : goal.returns-in-Refused
-returns-in-Refused c =
+pub returns-in-Err : goal.returns-in-Err
+returns-in-Err c =
     ap withheld c.missing.ensures
-    ∙ ask-missing _ c.requires _ refl _ c.in-Refused.why (sym c.in-Refused.is ∙ c.ask-answer.ensures.0)
+    ∙ ask-missing _ c.requires _ refl _ c.in-Err.why (sym c.in-Err.is ∙ c.ask-answer.ensures.0)

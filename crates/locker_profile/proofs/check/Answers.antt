@@ -11,26 +11,26 @@ pub asked-modulation-requires : goal.asked-modulation-requires
 unfolding slot_for
 asked-modulation-requires c = search rules
 
-pub returns-in-Refused : goal.returns-in-Refused
-returns-in-Refused c =
-    refused-first ((opened_for Read c.args.book.now)) _ _ c.asked-modulation.ensures c.in-Refused.is
+pub returns-in-Err : goal.returns-in-Err
+returns-in-Err c =
+    refused-first ((opened_for Read c.args.book.now)) _ _ c.asked-modulation.ensures c.in-Err.is
 
 pub asked-packet-requires : goal.asked-packet-requires
 unfolding slot_for
 asked-packet-requires c = search rules
 
-pub returns-in-Refused-second : goal.returns-in-Refused-second
-returns-in-Refused-second c =
-    refused-second ((opened_for Read c.args.book.now)) _ _ c.asked-modulation.ensures _ c.in_default.is _ c.asked-packet.ensures c.in-Refused-second.is
+pub returns-in-Err-second : goal.returns-in-Err-second
+returns-in-Err-second c =
+    refused-second ((opened_for Read c.args.book.now)) _ _ c.asked-modulation.ensures _ c.in_default.is _ c.asked-packet.ensures c.in-Err-second.is
 
 pub asked-sync-requires : goal.asked-sync-requires
 unfolding slot_for
 asked-sync-requires c = search rules
 
-pub returns-in-Refused-fourth : goal.returns-in-Refused-fourth
-returns-in-Refused-fourth c =
+pub returns-in-Err-fourth : goal.returns-in-Err-fourth
+returns-in-Err-fourth c =
     refused-fourth ((opened_for Read c.args.book.now)) _ _ c.asked-modulation.ensures _ c.in_default.is _ c.asked-packet.ensures _ c.in_default-second.is _
-    c.asked-sync.ensures c.in-Refused-fourth.is
+    c.asked-sync.ensures c.in-Err-fourth.is
 
 pub returns : goal.returns
 returns c =

@@ -4,8 +4,5 @@ use lib.ListN.{drop, length}
 use Rattle.owners.specs.Owners.{each_side}
 use Rattle.owners.proofs.each_side.Given as goal
 
-abbrev pub invariant-loop-i : goal.invariant-loop-i
-invariant-loop-i l = (l.i ≤ length l.owners) × (each_side l.owners ≡ each_side (drop l.i l.owners))
-
-abbrev pub decreases-loop-i : goal.decreases-loop-i
-decreases-loop-i l = length l.owners - l.i
+abbrev pub invariant-loop-owner : goal.invariant-loop-owner
+invariant-loop-owner l = each_side l.owners ≡ each_side (drop l.owner-index l.owners)

@@ -5,8 +5,5 @@ use Rattle.table.specs.Table.{forms}
 use Rattle.owners.specs.Owners.{joined, joined_in}
 use Rattle.owners.proofs.is_joined.Given as goal
 
-abbrev pub invariant-loop-i : goal.invariant-loop-i
-invariant-loop-i l = (l.i ≤ length forms) × (joined l.owners ≡ joined_in (drop l.i forms) l.owners)
-
-abbrev pub decreases-loop-i : goal.decreases-loop-i
-decreases-loop-i l = length forms - l.i
+abbrev pub invariant-loop-short : goal.invariant-loop-short
+invariant-loop-short l = joined l.owners ≡ joined_in (drop l.short-index forms) l.owners

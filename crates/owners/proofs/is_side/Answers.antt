@@ -7,6 +7,6 @@ pub returns-then-w-eq1 : goal.returns-then-w-eq1
 unfolding is_side
 returns-then-w-eq1 c = sym (rw (eq-eqb _ 1 c.if-w-eq1.true))
 
-pub returns : goal.returns
+pub returns-else-w-eq1 : goal.returns-else-w-eq1
 unfolding is_side
-returns c = sym (rw (ne_eqb _ 1 c.if-w-eq1.false))
+returns-else-w-eq1 c = sym (rw (ne_eqb _ 1 c.if-w-eq1.false))

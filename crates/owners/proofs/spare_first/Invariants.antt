@@ -6,6 +6,3 @@ use Rattle.owners.proofs.spare_first.Given as goal
 
 abbrev pub invariant-loop-i : goal.invariant-loop-i
 invariant-loop-i l = spare_first l.owners ≡ all_first (drop l.i l.owners)
-
-abbrev pub decreases-loop-i : goal.decreases-loop-i
-decreases-loop-i l = length l.owners - l.i

@@ -1,7 +1,7 @@
 use mathlib.Core.Path.{◌≡◌, refl, sym, ◌∙◌}
 use native.Mathlib.Omega.{arith}
 use borrow.Author.Rules.{rules}
-use Rattle.book.specs.declared.Answer.TheVariants.{Done}
+use Rattle.std.specs.Prelude.{Ok}
 use Rattle.book.specs.Book.{Edit, opened_for, verdict}
 use Rattle.book.proofs.Calls.{done-nought}
 use Rattle.playback.specs.Parts.{pass_from}
@@ -16,20 +16,20 @@ returns-in_default c =
 pub returns-in-Header : goal.returns-in-Header
 unfolding pass_from
 returns-in-Header c =
-    let sound : Done 0 ≡ verdict (opened_for Edit c.args.book.now) = done-nought (opened_for Edit _) _ (sym c.in-Done.is ∙ c.ready_to_edit-found.ensures) in
+    let sound : Ok 0 ≡ verdict (opened_for Edit c.args.book.now) = done-nought (opened_for Edit _) _ (sym c.in-Ok.is ∙ c.ready_to_edit-found.ensures) in
     let whole = pass-sound _ _ _ _ sound _ c.in-Header.is _ _ c.play_header.ensures in
     record { value = whole.0; book_after = whole.1 }
 
 pub returns-in-Records : goal.returns-in-Records
 unfolding pass_from
 returns-in-Records c =
-    let sound : Done 0 ≡ verdict (opened_for Edit c.args.book.now) = done-nought (opened_for Edit _) _ (sym c.in-Done.is ∙ c.ready_to_edit-found.ensures) in
+    let sound : Ok 0 ≡ verdict (opened_for Edit c.args.book.now) = done-nought (opened_for Edit _) _ (sym c.in-Ok.is ∙ c.ready_to_edit-found.ensures) in
     let whole = pass-sound _ _ _ _ sound _ c.in-Records.is _ _ (comes-same _ _ _ _ _ _ (after_none _) c.play_gap.ensures) in
     record { value = whole.0; book_after = whole.1 }
 
 pub returns-in-Stopped : goal.returns-in-Stopped
 unfolding pass_from
 returns-in-Stopped c =
-    let sound : Done 0 ≡ verdict (opened_for Edit c.args.book.now) = done-nought (opened_for Edit _) _ (sym c.in-Done.is ∙ c.ready_to_edit-found.ensures) in
+    let sound : Ok 0 ≡ verdict (opened_for Edit c.args.book.now) = done-nought (opened_for Edit _) _ (sym c.in-Ok.is ∙ c.ready_to_edit-found.ensures) in
     let whole = pass-sound _ _ _ _ sound _ c.in-Stopped.is _ _ (comes-still _ _ _ _ _ _ (λ i. (c.slice_known-1.given i).fits) sound refl c.halt.ensures) in
     record { value = whole.0; book_after = whole.1 }

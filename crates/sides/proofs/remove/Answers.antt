@@ -10,21 +10,21 @@ pub returns-then-is_foreign : goal.returns-then-is_foreign
 returns-then-is_foreign c =
     let bytes : Bytes c.args.book.now = λ i. (c.slice_known-1.given i).fits in
     permits _ _ _ _
-    (barred-away _ _ _ bytes (sym c.may_call.ensures ∙ c.if-may_call.true) (Remove _) _
+    (barred-away _ _ _ bytes (sym c.may_call.ensures ∙ c.if-not-may_call.false) (Remove _) _
     (foreign-named _ _ _ _ _ c.is_foreign.ensures c.if-is_foreign.true (Remove _) c.slot_for.ensures) _
-    (own_first Edit _ _ _ _ c.refused.ensures c.ready_to_edit.ensures))
-
-pub returns-then-may_call : goal.returns-then-may_call
-returns-then-may_call c =
-    let bytes : Bytes c.args.book.now = λ i. (c.slice_known-1.given i).fits in
-    permits-same _ _ _ _
-    (remove-call _ _ _ bytes (sym c.may_call.ensures ∙ c.if-may_call.true) _
-    (foreign-named _ _ _ _ _ c.is_foreign.ensures c.if-is_foreign.false (Remove _) c.slot_for.ensures))
-    c.remove.ensures
+    (own_first Edit _ _ _ _ c.and-then-is_foreign.ensures c.ready_to_edit-then-is_foreign.ensures))
 
 pub returns : goal.returns
 returns c =
     let bytes : Bytes c.args.book.now = λ i. (c.slice_known-1.given i).fits in
+    permits-same _ _ _ _
+    (remove-call _ _ _ bytes (sym c.may_call.ensures ∙ c.if-not-may_call.false) _
+    (foreign-named _ _ _ _ _ c.is_foreign.ensures c.if-is_foreign.false (Remove _) c.slot_for.ensures))
+    c.remove.ensures
+
+pub returns-then-not-may_call : goal.returns-then-not-may_call
+returns-then-not-may_call c =
+    let bytes : Bytes c.args.book.now = λ i. (c.slice_known-1.given i).fits in
     permits _ _ _ _
-    (wrong-away _ _ _ bytes (sym c.may_call.ensures ∙ c.if-may_call.false) (Remove _) _ _
-    (own_first Edit _ _ _ _ c.refused-2.ensures c.ready_to_edit-2.ensures))
+    (wrong-away _ _ _ bytes (sym c.may_call.ensures ∙ c.if-not-may_call.true) (Remove _) _ _
+    (own_first Edit _ _ _ _ c.and.ensures c.ready_to_edit.ensures))

@@ -12,13 +12,12 @@ pub loop-k-preserved : goal.loop-k-preserved
 loop-k-preserved c =
     let l = c.loop-k in
     let a = c.args in (
-      omega arith,
-      c.take_out.auto.book ∙ l.invariant.1,
-      l.invariant.2
-          ∙ emptied-on (owns a.owners.now a.side) l.k l.book c.loop-k-test.true
+      c.take_out.auto.book ∙ l.invariant.0,
+      l.invariant.1
+          ∙ emptied-on (owns a.owners.now a.side) l.k l.book (omega arith)
           ∙ ap (λ (x : List ℕ). emptied_bytes (owns a.owners.now a.side) (kinds + 1 - (l.k + 1)) (l.k + 1) x)
           (sym c.take_out.ensures),
     )
 
 pub returns : goal.returns
-returns c = sym (c.loop-k.invariant.2 ∙ emptied-end _ _ _ c.loop-k-test.false)
+returns c = sym (c.loop-k.invariant.1 ∙ emptied-end _ _ _ c.loop-k-test.false)

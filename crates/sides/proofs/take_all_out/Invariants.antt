@@ -8,8 +8,5 @@ use Rattle.sides.proofs.take_all_out.Given as goal
 
 abbrev pub invariant-loop-k : goal.invariant-loop-k
 invariant-loop-k l =
-    (l.k ≤ kinds + 1) × (length l.book ≡ length l.initial.book)
+    (length l.book ≡ length l.initial.book)
     × (emptied_bytes (owns l.owners l.side) kinds 1 l.initial.book ≡ emptied_bytes (owns l.owners l.side) (kinds + 1 - l.k) l.k l.book)
-
-abbrev pub decreases-loop-k : goal.decreases-loop-k
-decreases-loop-k l = kinds + 1 - l.k

@@ -7,18 +7,17 @@ use Rattle.sides.proofs.weigh.Goals as goal
 pub loop-s-preserved : goal.loop-s-preserved
 loop-s-preserved c =
     let a = c.args in (
-      omega (arith, c.loop-s-test.true),
-      omega (arith, c.loop-s.invariant.1, c.slot_weights-more.ensures.first_value.1),
-      omega (arith, c.loop-s.invariant.2, c.slot_weights-more.ensures.second_value.1),
+      omega (arith, c.loop-s.invariant.0, c.slot_weights-more.ensures.first_value.1),
+      omega (arith, c.loop-s.invariant.1, c.slot_weights-more.ensures.second_value.1),
       omega (
         arith,
-        c.loop-s.invariant.3,
+        c.loop-s.invariant.2,
         c.slot_weights-more.ensures.first_value.0,
         weight-step a.slots settings (owns a.owners.now 1) a.book.now c.loop-s.s c.loop-s-test.true,
       ),
       omega (
         arith,
-        c.loop-s.invariant.4,
+        c.loop-s.invariant.3,
         c.slot_weights-more.ensures.second_value.0,
         weight-step a.slots settings (owns a.owners.now 2) a.book.now c.loop-s.s c.loop-s-test.true,
       ),
@@ -28,11 +27,11 @@ pub returns : goal.returns
 returns c =
     let a = c.args in record {
       first_value = (
-        omega (arith, c.loop-s.invariant.3, weight-end a.slots settings (owns a.owners.now 1) a.book.now c.loop-s.s c.loop-s-test.false),
-        omega (arith, c.loop-s.invariant.1, c.loop-s.invariant.0),
+        omega (arith, c.loop-s.invariant.2, weight-end a.slots settings (owns a.owners.now 1) a.book.now c.loop-s.s c.loop-s-test.false),
+        omega (arith, c.loop-s.invariant.0),
       );
       second_value = (
-        omega (arith, c.loop-s.invariant.4, weight-end a.slots settings (owns a.owners.now 2) a.book.now c.loop-s.s c.loop-s-test.false),
-        omega (arith, c.loop-s.invariant.2, c.loop-s.invariant.0),
+        omega (arith, c.loop-s.invariant.3, weight-end a.slots settings (owns a.owners.now 2) a.book.now c.loop-s.s c.loop-s-test.false),
+        omega (arith, c.loop-s.invariant.1),
       );
     }

@@ -7,9 +7,6 @@ use Rattle.sides.proofs.weigh.Given as goal
 
 abbrev pub invariant-loop-s : goal.invariant-loop-s
 invariant-loop-s l =
-    (l.s ≤ settings) × (l.first ≤ 12 * l.s) × (l.second ≤ 12 * l.s) × (weight_from l.slots settings (owns l.owners 1) l.book 0
+    (l.first ≤ 12 * l.s) × (l.second ≤ 12 * l.s) × (weight_from l.slots settings (owns l.owners 1) l.book 0
     ≡ l.first + weight_from l.slots (settings - l.s) (owns l.owners 1) l.book l.s)
     × (weight_from l.slots settings (owns l.owners 2) l.book 0 ≡ l.second + weight_from l.slots (settings - l.s) (owns l.owners 2) l.book l.s)
-
-abbrev pub decreases-loop-s : goal.decreases-loop-s
-decreases-loop-s l = settings - l.s
