@@ -26,16 +26,15 @@ use Rattle.bank_widths.specs.Lists.{found, found_in}
 use Rattle.bank_widths.proofs.Laws.{found-keeps}
 use Rattle.playback.specs.Plays.{plays}
 use Rattle.playback.proofs.Laws.{play-keeps as day-keeps}
-use Rattle.hoardbutton.specs.Banks.{banks_c}
-use Rattle.hoardbutton.specs.Books.{answer_c}
+use Rattle.hoardbutton.specs.Answers.{answer_c}
 use Rattle.hoardbutton.specs.Plays.{day_c, refusal_in}
-use Rattle.hoardbutton.specs.Reels.{dump_c, text_c}
+use Rattle.hoardbutton.specs.Reels.{text_c}
 
 -- `hb_level_text`, `hb_snr_text`, `hb_dump`
 pub text-keeps : (text out : List ℕ) → 0 < (text_c text out).refusal → filled text out ≡ out
 text-keeps text out = by (dumped text out) refl
   where
-    by : (d : Result ℕ Refusal) → dumped text out ≡ d → 0 < (dump_c d).refusal → filled text out ≡ out
+    by : (d : Result ℕ Refusal) → dumped text out ≡ d → 0 < (answer_c d).refusal → filled text out ≡ out
     by (Ok n) e q = absurd (omega arith)
     by (Err x) e q = dump-keeps text out x e
 
@@ -58,10 +57,10 @@ shared_keeps t w c o b B = by (side_call t w c o b).answer refl
     by (Err x) e q = side-keeps t w c o b B x e
 
 -- `hb_widths_find`
-pub codes-keep : (ns out : List ℕ) → 0 < (banks_c (found ns (length out))).refusal → found_in ns out ≡ out
+pub codes-keep : (ns out : List ℕ) → 0 < (answer_c (found ns (length out))).refusal → found_in ns out ≡ out
 codes-keep ns out = by (found ns (length out)) refl
   where
-    by : (a : Result ℕ Refusal) → found ns (length out) ≡ a → 0 < (banks_c a).refusal → found_in ns out ≡ out
+    by : (a : Result ℕ Refusal) → found ns (length out) ≡ a → 0 < (answer_c a).refusal → found_in ns out ≡ out
     by (Ok n) e q = absurd (omega arith)
     by (Err x) e q = found-keeps ns out x e
 

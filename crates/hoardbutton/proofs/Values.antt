@@ -38,11 +38,9 @@ use Rattle.bank_widths.proofs.Laws.{accepts-all, found-accepted}
 use Rattle.locker_profile.specs.declared.Answer as locker
 use Rattle.locker_profile.specs.declared.Answer.TheVariants as profile
 use Rattle.hoardbutton.specs.declared.answers.HbAnswer.{HbAnswer}
-use Rattle.hoardbutton.specs.Answers.{done_c, refused_c}
-use Rattle.hoardbutton.specs.Banks.{banks_c}
-use Rattle.hoardbutton.specs.Books.{answer_c}
+use Rattle.hoardbutton.specs.Answers.{answer_c, done_c, refused_c}
 use Rattle.hoardbutton.specs.Profiles.{profile_c}
-use Rattle.hoardbutton.specs.Reels.{dump_c, text_c}
+use Rattle.hoardbutton.specs.Reels.{text_c}
 
 -- ---- refused and done
 
@@ -70,13 +68,11 @@ book-told c b = answer-told (after c b).answer
 pub side-told : (t : OwnerTable) (w : ℕ) (c : Request) (o b : List ℕ) → Told (answer_c (after_event t (by w c o) b).answer)
 side-told t w c o b = answer-told (after_event t (by w c o) b).answer
 
-pub banks-told : (a : Result ℕ Refusal) → Told (banks_c a)
-banks-told (Ok n) = done-told n
-banks-told (Err x) = refused-told x
+pub banks-told : (a : Result ℕ Refusal) → Told (answer_c a)
+banks-told = answer-told
 
-pub text-told : (d : Result ℕ Refusal) → Told (dump_c d)
-text-told (Ok n) = done-told n
-text-told (Err x) = refused-told x
+pub text-told : (d : Result ℕ Refusal) → Told (answer_c d)
+text-told = answer-told
 
 pub profile-told : (a : locker.Answer) → Told (profile_c a)
 profile-told profile.Yes = done-told 0
@@ -95,8 +91,8 @@ pub record Wrote (P : List ℕ → Type 0) (before : List ℕ) (r : HbAnswer) (a
 pub text-wrote : (text out : List ℕ) → (text_c text out).refusal ≡ 0 → Wrote (λ x. x ≡ text) out (text_c text out) (filled text out)
 text-wrote text out = go (leb (length text) (length out))
   where
-    go : (t : Bool) → (dump_c (cond t (dump.Text (length text)) (dump.Refused OutputShort))).refusal ≡ 0
-        → Wrote (λ x. x ≡ text) out (dump_c (cond t (dump.Text (length text)) (dump.Refused OutputShort))) (cond t (text ++ drop (length text) out) out)
+    go : (t : Bool) → (answer_c (cond t (Ok (length text)) (Err OutputShort))).refusal ≡ 0
+        → Wrote (λ x. x ≡ text) out (answer_c (cond t (Ok (length text)) (Err OutputShort))) (cond t (text ++ drop (length text) out) out)
     go true e = record { text = text; own = refl; many = refl; stands = refl }
     go false e = absurd (omega (arith, e))
 
@@ -207,16 +203,16 @@ module _ (t : OwnerTable) (w : ℕ) where
 
 -- ---- banks
 
-pub check-count : (ns cs : List ℕ) → (banks_c (judged ns cs)).refusal ≡ 0 → (banks_c (judged ns cs)).value ≡ length ns
+pub check-count : (ns cs : List ℕ) → (answer_c (judged ns cs)).refusal ≡ 0 → (answer_c (judged ns cs)).value ≡ length ns
 check-count ns cs = go (judged ns cs) refl
   where
-    go : (a : Result ℕ Refusal) → judged ns cs ≡ a → (banks_c a).refusal ≡ 0 → (banks_c a).value ≡ length ns
+    go : (a : Result ℕ Refusal) → judged ns cs ≡ a → (answer_c a).refusal ≡ 0 → (answer_c a).value ≡ length ns
     go (Ok n) e z = (accepts-all ns cs n e).2
     go (Err x) e z = absurd (omega (arith, z, (number-bounds x).0))
 
-pub find-count : (ns out : List ℕ) → (banks_c (found ns (length out))).refusal ≡ 0 → (banks_c (found ns (length out))).value ≡ length ns
+pub find-count : (ns out : List ℕ) → (answer_c (found ns (length out))).refusal ≡ 0 → (answer_c (found ns (length out))).value ≡ length ns
 find-count ns out = go (found ns (length out)) refl
   where
-    go : (a : Result ℕ Refusal) → found ns (length out) ≡ a → (banks_c a).refusal ≡ 0 → (banks_c a).value ≡ length ns
+    go : (a : Result ℕ Refusal) → found ns (length out) ≡ a → (answer_c a).refusal ≡ 0 → (answer_c a).value ≡ length ns
     go (Ok n) e z = (accepts-all ns (found_in ns out) n (found-accepted ns out n e).1).2
     go (Err x) e z = absurd (omega (arith, z, (number-bounds x).0))

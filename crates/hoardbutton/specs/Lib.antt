@@ -1,7 +1,6 @@
 pub mod Answers
 pub mod Frames
 pub mod Books
-pub mod Banks
 pub mod Profiles
 pub mod Radio
 pub mod Readings

@@ -1,6 +1,6 @@
 // What a call says, in numbers: done with a value, or a refusal with its place.
 ghost use Rattle.std.specs.Prelude.{◌≡◌};
-ghost use Rattle.hoardbutton.specs.Answers.{low, done_c, refused_c};
+ghost use Rattle.hoardbutton.specs.Answers.{low, done_c, refused_c, answer_c};
 
 use refusal::Refusal;
 
@@ -38,5 +38,15 @@ pub(crate) fn refused(why: Refusal) -> HbAnswer
         refusal: why.number(),
         place: low(why.place() as u64),
         value: 0,
+    }
+}
+
+// What a call says that counts something: the count, or the refusal.
+pub(crate) fn answered(a: Result<usize, Refusal>) -> HbAnswer
+    ensures { result ≡ answer_c a }
+{
+    match a {
+        Ok(n) => done(n as u64),
+        Err(why) => refused(why),
     }
 }

@@ -1,19 +1,9 @@
 // The settings book over a lent buffer.
 ghost use Rattle.std.specs.Prelude.{◌≡◌};
 ghost use Rattle.book.specs.History.{Make, Put, Remove, Ask, Clear, Replay, after};
-ghost use Rattle.hoardbutton.specs.Books.{answer_c, Leaves, Writes};
+ghost use Rattle.hoardbutton.specs.Books.{Leaves, Writes};
 
-use crate::answers::{HbAnswer, done, refused};
-use book::Answer;
-
-pub(crate) fn answered(a: Answer) -> HbAnswer
-    ensures { result ≡ answer_c a }
-{
-    match a {
-        Ok(n) => done(n as u64),
-        Err(why) => refused(why),
-    }
-}
+use crate::answers::{HbAnswer, answered};
 
 #[unsafe(no_mangle)]
 pub extern "C" fn hb_book_make(book: &mut [u8]) -> HbAnswer

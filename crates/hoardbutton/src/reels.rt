@@ -3,11 +3,10 @@ ghost use Rattle.std.specs.Prelude.{◌≡◌};
 ghost use Rattle.reel.specs.Reel.{step_at};
 ghost use Rattle.dump_text.specs.Text.{text_of};
 ghost use Rattle.dump_text.specs.Whole.{filled};
-ghost use Rattle.hoardbutton.specs.Reels.{step_c, dump_c, text_c};
+ghost use Rattle.hoardbutton.specs.Reels.{step_c, text_c};
 
-use crate::answers::{HbAnswer, done, refused};
+use crate::answers::{HbAnswer, answered};
 use reel::{Cursor, Step};
-use refusal::Refusal;
 
 // The bounds of the next frame with the place behind it; or that the reel has ended; or a refusal.
 #[repr(C)]
@@ -54,15 +53,6 @@ pub extern "C" fn hb_reel_step(reel: &[u8], at: u64) -> HbStep
 {
     let place = Cursor { at: at as usize };
     stepped(place.step(reel))
-}
-
-fn answered(d: Result<usize, Refusal>) -> HbAnswer
-    ensures { result ≡ dump_c d }
-{
-    match d {
-        Ok(n) => done(n as u64),
-        Err(why) => refused(why),
-    }
 }
 
 // The text of a dump to the front of the output.

@@ -5,8 +5,7 @@ ghost use Rattle.sides.specs.Calls.{Request};
 ghost use Rattle.sides.specs.Histories.{after_event, by};
 ghost use Rattle.hoardbutton.specs.Books.{Leaves, Writes};
 
-use crate::answers::HbAnswer;
-use crate::books::answered;
+use crate::answers::{HbAnswer, answered};
 
 #[unsafe(no_mangle)]
 pub extern "C" fn hb_side_put(
