@@ -2,10 +2,9 @@
 // form of both, and tests/histories a plain list that gives the same answers.
 #![tactic(auto)]
 
-ghost use Rattle.std.specs.Prelude.{◌≡◌, ◌+◌, ◌≤◌, length};
+ghost use Rattle.std.specs.Prelude.{◌≡◌, ◌+◌, ◌≤◌, IfSome, length};
 
 use std::io::{Read, Stdin, Stdout};
-use texts::put_text;
 
 mod call;
 mod control;
@@ -20,13 +19,6 @@ const BOOK: usize = 5000;
 
 const LENT: usize = 512;
 
-// What the turns hand on: how long the book's buffer is, and whether there may be more to answer.
-#[derive(Drop)]
-struct State {
-    len: usize,
-    more: bool,
-}
-
 // Carries a record out, and puts its answer to the front of out: the call's answer, the book's bytes, the output's bytes.
 fn answer(r: &[u8], book: &mut [u8], lent: &mut [u8], out: &mut [u8]) -> usize
     requires { (12 ≤ length r.now) × (4 + length book.old + length lent.old ≤ length out.old) }
@@ -37,9 +29,9 @@ fn answer(r: &[u8], book: &mut [u8], lent: &mut [u8], out: &mut [u8]) -> usize
     record::fill(lent, 165);
     let said = call::carried(r[0], r, book, lent);
     let head = call::told(said);
-    put_text(out, 0, &head);
-    put_text(out, 4, book);
-    put_text(out, n, lent);
+    out[0..4].copy_from_slice(&head);
+    out[4..n].copy_from_slice(book);
+    out[n..all].copy_from_slice(lent);
     all
 }
 
@@ -74,7 +66,7 @@ fn step(
     from + answer(r, &mut book[0..have], &mut lent[0..o], &mut out[from..])
 }
 
-// Answers the records of a block, and tells how long the book's buffer is then.
+// Answers the records of a block, and tells how long the book's buffer is then, if all is written.
 fn block(
     output: Stdout,
     len: usize,
@@ -82,9 +74,9 @@ fn block(
     book: &mut [u8],
     lent: &mut [u8],
     out: &mut [u8],
-) -> State
+) -> Option<usize>
     requires { (len ≤ length book.old) × (4 + length book.old + length lent.old ≤ length out.old) }
-    ensures { result.len ≤ length book.old }
+    ensures { IfSome result (λ n. n ≤ length book.old) }
 {
     let mut have = len;
     let mut at: usize = 0;
@@ -97,31 +89,28 @@ fn block(
         at += size;
         size = record::whole(&s[at..]);
     }
-    State {
-        len: have,
-        more: Print::write_all(&output, &out[0..w]).is_ok(),
+    match Print::write_all(&output, &out[0..w]) {
+        Ok(()) => Some(have),
+        Err(_) => None,
     }
 }
 
-// Reads until s is full, the input ends or a read fails, and tells how many bytes came.
+// Reads until s is full, the input ends or a read fails, and tells how many bytes came. `vectors` has it too, which says why.
 fn read_full(input: Stdin, s: &mut [u8]) -> usize
     ensures { result ≤ length s.new }
 {
     let mut from = input;
     let mut have: usize = 0;
     while have < s.len() {
-        let Ok(n) = from.read(&mut s[have..]) else {
-            return have;
-        };
-        if n == 0 {
-            return have;
+        match from.read(&mut s[have..]) {
+            Ok(n) if 0 < n => have += n,
+            _ => break,
         }
-        have += n;
     }
     have
 }
 
-// Reads a block, or what is left of the input, and answers it.
+// Reads a block, or what is left of the input, and answers it; tells how long the book's buffer is then, if there may be more.
 fn turn(
     input: Stdin,
     output: Stdout,
@@ -130,30 +119,25 @@ fn turn(
     book: &mut [u8],
     lent: &mut [u8],
     out: &mut [u8],
-) -> State
+) -> Option<usize>
     requires { (len ≤ length book.old) × (4 + length book.old + length lent.old ≤ length out.old) }
-    ensures { result.len ≤ length book.old }
+    ensures { IfSome result (λ n. n ≤ length book.old) }
 {
     let n = read_full(input, s);
-    let after = block(output, len, &s[..n], book, lent, out);
-    State {
-        len: after.len,
-        more: after.more && n == s.len(),
-    }
+    let after = block(output, len, &s[..n], book, lent, out)?;
+    if n == s.len() { Some(after) } else { None }
 }
 
-// Nothing says that the input ends, so the turns are counted down from a number that no run uses up.
+// Nothing says that the input ends, so there are more turns than any run uses up.
 fn run(input: Stdin, output: Stdout, s: &mut [u8], book: &mut [u8], lent: &mut [u8], out: &mut [u8])
     requires { 4 + length book.old + length lent.old ≤ length out.old }
 {
     let mut len: usize = 0;
-    let mut more = true;
-    let mut turns = u64::MAX;
-    while turns > 0 && more {
-        let t = turn(input, output, len, s, book, lent, out);
-        len = t.len;
-        more = t.more;
-        turns -= 1;
+    for _ in 0..u64::MAX {
+        let Some(next) = turn(input, output, len, s, book, lent, out) else {
+            return;
+        };
+        len = next;
     }
 }
 

@@ -37,53 +37,25 @@ pub const SEND: u8 = 15;
 
 pub const HEAR: u8 = 16;
 
-fn wide(x: u8) -> u64 {
-    x as u64
-}
-
-pub fn small(x: u8) -> usize
-    ensures { result < 256 }
-{
-    x as usize
-}
-
 // A number's low byte.
 pub fn low(n: usize) -> u8 {
     (n % 256) as u8
-}
-
-fn least(a: usize, b: usize) -> usize
-    ensures { (result ≤ a) × (result ≤ b) }
-{
-    if a < b { a } else { b }
 }
 
 // The length of the record at the front of s; 0 where none is whole, or where zeros fill the block up.
 pub fn whole(s: &[u8]) -> usize
     ensures { result ≤ length s.now }
 {
-    if s.len() < HEAD {
+    if s.len() < HEAD || s[0] == 0 {
         return 0;
     }
-    if s[0] == 0 {
-        return 0;
-    }
-    let n = HEAD + small(s[1]);
-    if s.len() < n {
-        return 0;
-    }
-    n
+    let n = HEAD + usize::from(s[1]);
+    if s.len() < n { 0 } else { n }
 }
 
 // The number that the bytes of s are.
 pub fn number(s: &[u8]) -> u64 {
-    let mut n: u64 = 0;
-    let mut i: usize = 0;
-    while i < s.len() {
-        n = (n << 8) | wide(s[i]);
-        i += 1;
-    }
-    n
+    s.iter().fold(0, |n, b| (n << 8) | u64::from(*b))
 }
 
 pub(crate) fn size(r: &[u8]) -> usize
@@ -104,7 +76,7 @@ pub(crate) fn lent_len(r: &[u8], len: usize, most: usize) -> usize
     ensures { result ≤ most }
 {
     if r[0] == LEND {
-        return least(size(r), most);
+        return size(r).min(most);
     }
     len
 }
@@ -115,19 +87,16 @@ pub(crate) fn output_len(r: &[u8], most: usize) -> usize
     ensures { result ≤ most }
 {
     match r[0] {
-        ASK | REPLAY | SIDE_ASK | SIDE_REPLAY | START | SEND | HEAR => least(size(r), most),
+        ASK | REPLAY | SIDE_ASK | SIDE_REPLAY | START | SEND | HEAR => size(r).min(most),
         _ => 0,
     }
 }
 
 // Bytes that count up from b: what a buffer holds before a call.
 pub fn fill(s: &mut [u8], b: u8) {
-    let mut x = b;
-    let mut i: usize = 0;
-    while i < s.len() {
-        let next = std::num::wrapping_add_u8(x, 1);
-        s[i] = x;
-        x = next;
-        i += 1;
+    let mut next = b;
+    for x in s.iter_mut() {
+        *x = next;
+        next = next.wrapping_add(1);
     }
 }

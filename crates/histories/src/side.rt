@@ -46,7 +46,7 @@ pub(crate) fn carried(op: u8, r: &[u8], book: &mut [u8], lent: &mut [u8]) -> Ans
     if r.len() < OWNERS {
         return Ok(0);
     }
-    let end = OWNERS + record::small(r[COUNT]);
+    let end = OWNERS + usize::from(r[COUNT]);
     if r.len() < end {
         return Ok(0);
     }
