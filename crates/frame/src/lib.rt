@@ -121,6 +121,7 @@ impl Placed {
     }
 }
 
+// `put`, `get`, `byte_at` and `is_sound` are no methods: the crates above, the benchmarks and docs/GUARANTEES.md call them by these names.
 // The value v, cut to the field and ORed into the bytes; those that s lacks are lost, and so is a field that is none.
 #[tactic(auto, unfolding(crate::specs::Layout::put))]
 pub fn put(s: &mut [u8], f: Field, v: u64)

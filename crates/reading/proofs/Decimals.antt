@@ -1,7 +1,8 @@
 -- The laws of a number's digits. First the two steps by which they are printed: `decimal-one`, `decimal-more`.
 -- Then that they are the right ones: they stand for the number (`decimal-value`), and are no more than it needs (`decimal-length`).
 -- Assumes nothing.
-use Rattle.std.proofs.Common.{◌≡◌, ℕ, zero, suc, ◌+◌, ◌-◌, ◌*◌, ◌/◌, ◌^◌, ◌<◌, ◌≤◌, Bool, true, false, cond, ltb, List, [], ◌∷◌, ◌++◌, length, sym, refl, ap, ◌∙◌, pow-suc, arith, length-append, ltb-true, le-ltb, lt-ltb}
+use Rattle.std.proofs.Common.{◌≡◌, ℕ, zero, suc, ◌+◌, ◌-◌, ◌*◌, ◌/◌, ◌^◌, ◌<◌, ◌≤◌, Bool, true, false, cond}
+use Rattle.std.proofs.Common.{ltb, List, [], ◌∷◌, ◌++◌, length, sym, refl, ap, ◌∙◌, pow-suc, arith, length-append, ltb-true, le-ltb, lt-ltb}
 use Rattle.reading.specs.Decimal.{digit, digits, decimal}
 
 -- room for one digit more than a number has changes nothing

@@ -6,14 +6,14 @@ ghost use Rattle.std.specs.Prelude.{◌≡◌, ℕ, List, [], ◌∷◌, ◌++�
 ghost use Rattle.reading.specs.Decimal.{digit, decimal};
 ghost use Rattle.reading.specs.Level.{signed_of, minus, tenths, hundredths, rssi_text, snr_text, text_of, counter_difference};
 
-// A text of at most eight bytes, with zeros behind it.
+// A text of at most eight bytes, with zeros behind it. It has its length beside: it is handed back by value, and there is no heap.
 #[derive(Clone, Copy, PartialEq, Eq, Debug)]
 pub struct Text {
     pub bytes: [u8; 8],
     pub len: usize,
 }
 
-// The byte of the last digit of n.
+// The byte of the last digit of n. `texts` has its own for 64 bits, which its edits `digit_by_nine` and `digits_from_one` hold.
 fn last_digit(n: u32) -> u8
     ensures { result ≡ digit n }
 {

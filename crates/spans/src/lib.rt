@@ -30,7 +30,7 @@ pub fn slide(b: &mut [u8], at: usize, gap: usize, m: usize)
     }
 }
 
-// Moves the m bytes from `at` on up to at + gap.
+// Moves the m bytes from `at` on up to at + gap. A function of its own beside `slide`: callers, docs/GUARANTEES.md and the edits name both.
 pub fn slide_up(b: &mut [u8], at: usize, gap: usize, m: usize)
     ensures { b.new ≡ slid_up b.old at gap m }
 {

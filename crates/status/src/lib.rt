@@ -382,7 +382,7 @@ impl Intr {
         self.0 == 0
     }
 
-    // Whether each is raised, in bit order 0 to 31; the masks above say what each is.
+    // Whether each is raised, in bit order 0 to 31; the masks above say what each is. One function a bit, by the names that the Rust has.
     pub fn rx_fifo(self) -> bool
         ensures { result ≡ is_set self.0 0 }
     {

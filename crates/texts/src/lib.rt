@@ -1,5 +1,6 @@
 // Texts in a lent output: bytes, words, numbers, and forms with numbers filled in. Each `put_..` writes behind what stands there, as far as the
 // output goes, and hands back where it ended, so they compose. specs/Written.antt says what is put; proofs/Writing.antt joins what was put.
+// A writer that holds output and place would be no plainer: `Puts` would speak of its two fields, before and after, in each clause.
 #![tactic(auto)]
 
 ghost use Rattle.std.specs.Prelude.{◌≡◌, [], ◌∷◌};
