@@ -64,10 +64,12 @@ set-lora-synch-timeout-cmd-once κs a h o u p q i = (same p q i, o.1)
 set-lora-syncword-cmd-once : Once contracts.set_lora_syncword_cmd.ended cmd_lora.set_lora_syncword_cmd.Reads.Pre cmd_lora.set_lora_syncword_cmd.Reads.Learnt
 set-lora-syncword-cmd-once κs a h o u p q i = (same p q i, o.1)
 
-config-lora-preamble-modulation-cmd-once : Once contracts.config_lora_preamble_modulation_cmd.ended cmd_lora.config_lora_preamble_modulation_cmd.Reads.Pre cmd_lora.config_lora_preamble_modulation_cmd.Reads.Learnt
+config-lora-preamble-modulation-cmd-once : Once contracts.config_lora_preamble_modulation_cmd.ended
+    cmd_lora.config_lora_preamble_modulation_cmd.Reads.Pre cmd_lora.config_lora_preamble_modulation_cmd.Reads.Learnt
 config-lora-preamble-modulation-cmd-once κs a h o u p q i = (same p q i, o.1)
 
-config-lora-preamble-modulation-adv-cmd-once : Once contracts.config_lora_preamble_modulation_adv_cmd.ended cmd_lora.config_lora_preamble_modulation_adv_cmd.Reads.Pre cmd_lora.config_lora_preamble_modulation_adv_cmd.Reads.Learnt
+config-lora-preamble-modulation-adv-cmd-once : Once contracts.config_lora_preamble_modulation_adv_cmd.ended
+    cmd_lora.config_lora_preamble_modulation_adv_cmd.Reads.Pre cmd_lora.config_lora_preamble_modulation_adv_cmd.Reads.Learnt
 config-lora-preamble-modulation-adv-cmd-once κs a h o u p q i = (same p q i, o.1)
 
 set-lora-cad-params-cmd-once : Once contracts.set_lora_cad_params_cmd.ended cmd_lora.set_lora_cad_params_cmd.Reads.Pre cmd_lora.set_lora_cad_params_cmd.Reads.Learnt
@@ -88,7 +90,8 @@ set-lora-address-cmd-once κs a h o u p q i = (same p q i, o.1)
 set-lora-syncword-extended-cmd-once : Once contracts.set_lora_syncword_extended_cmd.ended cmd_lora.set_lora_syncword_extended_cmd.Reads.Pre cmd_lora.set_lora_syncword_extended_cmd.Reads.Learnt
 set-lora-syncword-extended-cmd-once κs a h o u p q i = (same p q i, o.1)
 
-set-lora-side-det-syncword-extended-cmd-once : Once contracts.set_lora_side_det_syncword_extended_cmd.ended cmd_lora.set_lora_side_det_syncword_extended_cmd.Reads.Pre cmd_lora.set_lora_side_det_syncword_extended_cmd.Reads.Learnt
+set-lora-side-det-syncword-extended-cmd-once : Once contracts.set_lora_side_det_syncword_extended_cmd.ended
+    cmd_lora.set_lora_side_det_syncword_extended_cmd.Reads.Pre cmd_lora.set_lora_side_det_syncword_extended_cmd.Reads.Learnt
 set-lora-side-det-syncword-extended-cmd-once κs a h o u p q i = (same p q i, o.1)
 
 set-lora-tx-sync-cmd-once : Once contracts.set_lora_tx_sync_cmd.ended cmd_lora.set_lora_tx_sync_cmd.Reads.Pre cmd_lora.set_lora_tx_sync_cmd.Reads.Learnt

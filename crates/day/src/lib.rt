@@ -68,6 +68,7 @@ fn miss(day: Day) -> Day
     next
 }
 
+// The four differ in the field that they write. One over a closure for the field would promise by what the closure gives, and not by the day.
 fn hear_lora_rx_stats(day: Day, read: Result<LoraRxStatsRsp, Refusal>) -> Day
     ensures { result ≡ heard_lora_rx_stats read day }
 {

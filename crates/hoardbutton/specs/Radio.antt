@@ -38,7 +38,16 @@ abbrev pub lora_rx_stats_none : ℕ → HbLoraRxStats
 lora_rx_stats_none why = record { refusal = why; status = 0; pkt_rx = 0; crc_error = 0; header_error = 0; detection = 0; false_sync = 0 }
 
 abbrev pub lora_rx_stats_c : Result LoraRxStatsRsp Refusal → HbLoraRxStats
-lora_rx_stats_c (Ok r) = record { refusal = 0; status = r.status.0; pkt_rx = r.pkt_rx; crc_error = r.crc_error; header_error = r.header_error; detection = r.detection; false_sync = r.false_sync }
+lora_rx_stats_c (Ok r) =
+    record {
+      refusal = 0;
+      status = r.status.0;
+      pkt_rx = r.pkt_rx;
+      crc_error = r.crc_error;
+      header_error = r.header_error;
+      detection = r.detection;
+      false_sync = r.false_sync;
+    }
 lora_rx_stats_c (Err x) = lora_rx_stats_none (number_of x)
 
 abbrev pub lora_packet_status_none : ℕ → HbLoraPacketStatus
@@ -67,14 +76,35 @@ abbrev pub fsk_rx_stats_none : ℕ → HbFskRxStats
 fsk_rx_stats_none why = record { refusal = why; status = 0; pkt_rx = 0; crc_error = 0; len_error = 0; pbl_det = 0; sync_ok = 0; sync_fail = 0; timeout = 0 }
 
 abbrev pub fsk_rx_stats_c : Result FskRxStatsRsp Refusal → HbFskRxStats
-fsk_rx_stats_c (Ok r) = record { refusal = 0; status = r.status.0; pkt_rx = r.pkt_rx; crc_error = r.crc_error; len_error = r.len_error; pbl_det = r.pbl_det; sync_ok = r.sync_ok; sync_fail = r.sync_fail; timeout = r.timeout }
+fsk_rx_stats_c (Ok r) =
+    record {
+      refusal = 0;
+      status = r.status.0;
+      pkt_rx = r.pkt_rx;
+      crc_error = r.crc_error;
+      len_error = r.len_error;
+      pbl_det = r.pbl_det;
+      sync_ok = r.sync_ok;
+      sync_fail = r.sync_fail;
+      timeout = r.timeout;
+    }
 fsk_rx_stats_c (Err x) = fsk_rx_stats_none (number_of x)
 
 abbrev pub fsk_packet_status_none : ℕ → HbFskPacketStatus
 fsk_packet_status_none why = record { refusal = why; status = 0; pkt_len = 0; rssi_avg = 0; rssi_sync = 0; addr_match_bcast = false; addr_match_node = false; lqi = 0 }
 
 abbrev pub fsk_packet_status_c : Result FskPacketStatusRsp Refusal → HbFskPacketStatus
-fsk_packet_status_c (Ok r) = record { refusal = 0; status = r.status.0; pkt_len = r.pkt_len; rssi_avg = r.rssi_avg.0; rssi_sync = r.rssi_sync.0; addr_match_bcast = r.addr_match_bcast; addr_match_node = r.addr_match_node; lqi = r.lqi }
+fsk_packet_status_c (Ok r) =
+    record {
+      refusal = 0;
+      status = r.status.0;
+      pkt_len = r.pkt_len;
+      rssi_avg = r.rssi_avg.0;
+      rssi_sync = r.rssi_sync.0;
+      addr_match_bcast = r.addr_match_bcast;
+      addr_match_node = r.addr_match_node;
+      lqi = r.lqi;
+    }
 fsk_packet_status_c (Err x) = fsk_packet_status_none (number_of x)
 
 abbrev pub rssi_inst_none : ℕ → HbRssiInst

@@ -52,7 +52,7 @@ fn place_in(answer: Answer) -> u64
     }
 }
 
-// ---- the last readings
+// ---- the last readings. C has a struct of its own for each (include/hoardbutton.h), so each has its own match.
 
 fn last_lora_rx_stats(last: Option<LoraRxStatsRsp>) -> HbLoraRxStats
     ensures { result ≡ last_lora_rx_stats_c last }

@@ -1,12 +1,19 @@
 -- The lines as forms: each is its form with the numbers filled in.
 -- Assumes nothing.
 use mathlib.Core.Path.{◌≡◌, refl, sym, ap, ◌∙◌}
+use mathlib.Core.Bool.{Bool, true, false, cond}
 use mathlib.Core.List.{List, [], ◌∷◌, ◌++◌, append_assoc}
 use Prim.Native.Nat.{ℕ}
+use Rattle.std.specs.Int.{from_bool}
 use Rattle.reading.specs.Decimal.{decimal}
 use Rattle.texts.specs.Words.{word, spaced, line}
 use Rattle.texts.specs.Written.{filled}
 use Rattle.texts.proofs.Forms.{spaced-then, filled-then}
+
+-- a yes or no as a number
+pub yes-or-no : (b : Bool) → from_bool b ≡ cond {A = ℕ} b 1 0
+yes-or-no true = refl
+yes-or-no false = refl
 
 pub stopped-form : (a b : ℕ) → line (word "stopped") (decimal a ∷ decimal b ∷ []) ≡ filled (word "stopped 0 1\n") (a ∷ b ∷ []) []
 unfolding line spaced filled

@@ -2,7 +2,7 @@
 // specs/Report.antt has each text; proofs/Longest.antt that none is longer than its output must be. The trace's name is the program's to print.
 #![tactic(auto)]
 
-ghost use Rattle.std.specs.Prelude.{◌≡◌, cond, [], ◌∷◌, ◌≤◌, length};
+ghost use Rattle.std.specs.Prelude.{◌≡◌, [], ◌∷◌, ◌≤◌, length};
 ghost use Rattle.reading.specs.Level.{rssi_text, snr_text};
 ghost use Rattle.texts.specs.Words.{spaced};
 ghost use Rattle.texts.specs.Written.{Puts};
@@ -26,6 +26,7 @@ pub const LONGEST_LINE: usize = 70;
 
 // ---- fields whose text is no number: a name and the text
 
+// A level and a ratio have a function each, as they have a type each, so that none is put for the other.
 fn put_level(out: &mut [u8], at: usize, name: &[u8], level: HalfDbm) -> usize
     ensures { Puts (spaced (name.now ∷ rssi_text level.0 ∷ []) []) at out.old result out.new }
 {
@@ -46,13 +47,6 @@ fn put_ratio(out: &mut [u8], at: usize, name: &[u8], ratio: QuarterDb) -> usize
     put_word(out, to, &bytes[0..n])
 }
 
-// A yes or no, as a number of a form.
-fn number_of(yes: bool) -> u64
-    ensures { result ≡ cond yes 1 0 }
-{
-    if yes { 1 } else { 0 }
-}
-
 // ---- counts
 
 fn put_refused_by(out: &mut [u8], at: usize, number: u64, n: u64) -> usize
@@ -70,10 +64,8 @@ fn put_refused(out: &mut [u8], at: usize, counts: [u64; 9]) -> usize
     ensures { Puts (refused_below 9 counts) at out.old result out.new }
 {
     let mut to = at;
-    let mut k: usize = 0;
-    while k < 9 {
-        to = put_refused_by(out, to, k as u64, counts[k]);
-        k += 1;
+    for (number, n) in counts.iter().enumerate() {
+        to = put_refused_by(out, to, number as u64, *n);
     }
     to
 }
@@ -82,10 +74,9 @@ fn put_counts(out: &mut [u8], at: usize, day: Day) -> usize
     ensures { Puts (counts_text day) at out.old result out.new }
 {
     let first = [day.records, day.accepted];
-    let refused = day.refused;
     let last = [day.skipped];
     let a = put_form(out, at, b"records 0\naccepted 1\n", &first);
-    let b = put_refused(out, a, refused);
+    let b = put_refused(out, a, day.refused);
     put_form(out, b, b"skipped 0\n", &last)
 }
 
@@ -119,7 +110,7 @@ fn put_lora_packet_status(out: &mut [u8], at: usize, last: Option<LoraPacketStat
         return at;
     };
     let front = [
-        number_of(rsp.crc),
+        u64::from(rsp.crc),
         rsp.coding_rate as u64,
         rsp.pkt_length as u64,
     ];
@@ -167,8 +158,8 @@ fn put_fsk_packet_status(out: &mut [u8], at: usize, last: Option<FskPacketStatus
     };
     let front = [rsp.pkt_len as u64];
     let back = [
-        number_of(rsp.addr_match_bcast),
-        number_of(rsp.addr_match_node),
+        u64::from(rsp.addr_match_bcast),
+        u64::from(rsp.addr_match_node),
         rsp.lqi as u64,
     ];
     let a = put_form(out, at, b"fsk_packet_status pkt_len 0", &front);
@@ -193,15 +184,11 @@ pub fn numbers(day: Day, out: &mut [u8]) -> usize
     if out.len() < LONGEST {
         return 0;
     }
-    let lora_rx_stats = day.lora_rx_stats;
-    let lora_packet_status = day.lora_packet_status;
-    let fsk_rx_stats = day.fsk_rx_stats;
-    let fsk_packet_status = day.fsk_packet_status;
     let a = put_counts(out, 0, day);
-    let b = put_lora_rx_stats(out, a, lora_rx_stats);
-    let c = put_lora_packet_status(out, b, lora_packet_status);
-    let d = put_fsk_rx_stats(out, c, fsk_rx_stats);
-    put_fsk_packet_status(out, d, fsk_packet_status)
+    let b = put_lora_rx_stats(out, a, day.lora_rx_stats);
+    let c = put_lora_packet_status(out, b, day.lora_packet_status);
+    let d = put_fsk_rx_stats(out, c, day.fsk_rx_stats);
+    put_fsk_packet_status(out, d, day.fsk_packet_status)
 }
 
 // The line of a trace's fault, likewise in `LONGEST_LINE` bytes.

@@ -83,77 +83,62 @@ fn interrupts(s: &[u8], mask: u32) -> Answer {
 }
 
 // Eight accessors, the first in bit 0.
-fn put_eight(
-    a: Answer,
-    b0: bool,
-    b1: bool,
-    b2: bool,
-    b3: bool,
-    b4: bool,
-    b5: bool,
-    b6: bool,
-    b7: bool,
-) -> Answer {
-    a.byte(
-        weighed(b0, 1)
-            | weighed(b1, 2)
-            | weighed(b2, 4)
-            | weighed(b3, 8)
-            | weighed(b4, 16)
-            | weighed(b5, 32)
-            | weighed(b6, 64)
-            | weighed(b7, 128),
-    )
-}
-
-fn weighed(b: bool, weight: u8) -> u8 {
-    if b { weight } else { 0 }
+fn put_eight(a: Answer, bits: [bool; 8]) -> Answer {
+    a.byte(bits.iter().rev().fold(0, |n, bit| n << 1 | u8::from(*bit)))
 }
 
 fn accessors(a: Answer, i: Intr) -> Answer {
     let b = put_eight(
         a,
-        i.rx_fifo(),
-        i.tx_fifo(),
-        i.rng_req_vld(),
-        i.tx_timestamp(),
-        i.rx_timestamp(),
-        i.preamble_detected(),
-        i.header_valid(),
-        i.cad_detected(),
+        [
+            i.rx_fifo(),
+            i.tx_fifo(),
+            i.rng_req_vld(),
+            i.tx_timestamp(),
+            i.rx_timestamp(),
+            i.preamble_detected(),
+            i.header_valid(),
+            i.cad_detected(),
+        ],
     );
     let c = put_eight(
         b,
-        i.lora_hdr_timestamp(),
-        i.header_err(),
-        i.eol(),
-        i.pa(),
-        i.lora_tx_rx_hop(),
-        i.sync_fail(),
-        i.lora_symbol_end(),
-        i.lora_timestamp_stat(),
+        [
+            i.lora_hdr_timestamp(),
+            i.header_err(),
+            i.eol(),
+            i.pa(),
+            i.lora_tx_rx_hop(),
+            i.sync_fail(),
+            i.lora_symbol_end(),
+            i.lora_timestamp_stat(),
+        ],
     );
     let d = put_eight(
         c,
-        i.error(),
-        i.cmd(),
-        i.rx_done(),
-        i.tx_done(),
-        i.cad_done(),
-        i.timeout(),
-        i.crc_error(),
-        i.len_error(),
+        [
+            i.error(),
+            i.cmd(),
+            i.rx_done(),
+            i.tx_done(),
+            i.cad_done(),
+            i.timeout(),
+            i.crc_error(),
+            i.len_error(),
+        ],
     );
     put_eight(
         d,
-        i.addr_error(),
-        i.fhss(),
-        i.inter_packet1(),
-        i.inter_packet2(),
-        i.rng_resp_done(),
-        i.rng_req_dis(),
-        i.rng_exch_vld(),
-        i.rng_timeout(),
+        [
+            i.addr_error(),
+            i.fhss(),
+            i.inter_packet1(),
+            i.inter_packet2(),
+            i.rng_resp_done(),
+            i.rng_req_dis(),
+            i.rng_exch_vld(),
+            i.rng_timeout(),
+        ],
     )
 }
 
@@ -185,21 +170,12 @@ fn lora_packet_status(s: &[u8]) -> Answer {
                 .flag(r.crc)
                 .byte(r.coding_rate)
                 .byte(r.pkt_length)
-                .byte(signed(r.snr_pkt.0));
+                .byte(r.snr_pkt.0.cast_unsigned());
             a.put_u16(r.rssi_pkt.0)
                 .put_u16(r.rssi_signal_pkt.0)
                 .byte(r.detector)
         }
         Err(x) => refused(x),
-    }
-}
-
-// The byte of a count in two's complement.
-fn signed(z: i8) -> u8 {
-    if z < 0 {
-        255 - ((-1 - z) as u8)
-    } else {
-        z as u8
     }
 }
 

@@ -1,4 +1,4 @@
--- `put_refused` meets its contract. The loop's invariant: the lines of the numbers below `k` stand there.
+-- `put_refused` meets its contract. The loop's invariant: the lines of the numbers below `number` stand there.
 -- Assumes nothing.
 use mathlib.Core.Path.{◌≡◌, refl, sym, ap, ◌∙◌}
 use Prim.Native.Nat.{ℕ, ◌-◌, ◌≤◌}
@@ -11,13 +11,13 @@ use Rattle.texts.proofs.Writing.{puts_then, puts-as, puts_none, puts-length}
 use Rattle.report.specs.Report.{refused_below}
 use Rattle.report.proofs.put_refused.Goals as goal
 
-pub loop-k-init : goal.loop-k-init
+pub loop-number-init : goal.loop-number-init
 unfolding refused_below
-loop-k-init c = (omega arith, refl, puts_none _ _)
+loop-number-init c = (refl, puts_none _ _)
 
-pub loop-k-preserved : goal.loop-k-preserved
+pub loop-number-preserved : goal.loop-number-preserved
 unfolding refused_below
-loop-k-preserved c =
+loop-number-preserved c =
     let put = c.put_refused_by-to.ensures in
-    let next = ap (λ (k : ℕ). refused_below k c.args.counts) (add-one c.loop-k.k) in
-    (omega arith, puts-length put ∙ c.loop-k.invariant.1, puts-as _ next (puts_then c.loop-k.invariant.2 put))
+    let next = ap (λ (k : ℕ). refused_below k c.args.counts) (add-one c.loop-number.number) in
+    (puts-length put ∙ c.loop-number.invariant.0, puts-as _ next (puts_then c.loop-number.invariant.1 put))
