@@ -13,7 +13,7 @@ use Rattle.refusal.specs.declared.Refusal.{Refusal}
 use Rattle.refusal.specs.Numbers.{number_of}
 use Rattle.decoder.proofs.Handed.{decoded-reading, decoded-refuses}
 use Rattle.decoder.specs.declared.Decoded.{Decoded}
-use Rattle.decoder.specs.Decoding.{Reading, reading, refuses, decoded, decode}
+use Rattle.decoder.specs.Decoding.{decoded, decode}
 use Rattle.cmd_lora.specs.Responses.{lora_rx_stats_read, lora_packet_status_read}
 use Rattle.cmd_fsk.specs.Responses.{fsk_rx_stats_read, fsk_packet_status_read}
 use Rattle.cmd_lora.specs.declared.rsp.LoraRxStatsRead.{LoraRxStatsRead}
