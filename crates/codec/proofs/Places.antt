@@ -16,7 +16,7 @@ use Rattle.table.specs.Table.{kinds, is_kind, rows, op_of, len_of, count_of, num
 use Rattle.table.specs.Narrowed.{fields_of, frame_of, opcode, arguments_in}
 use Rattle.table.proofs.Rows.{row_laid, plain-is}
 use Rattle.refusal.specs.declared.Refusal.{Refusal}
-use Rattle.refusal.specs.declared.Refusal.TheVariants.{ShortFrame, WrongLength, UnknownOpcode, StrayBit, UnknownCode, NotAKind}
+use Rattle.refusal.specs.declared.Refusal.TheVariants.{ShortFrame, StrayBit, UnknownCode, NotAKind}
 use Rattle.refusal.specs.Numbers.{number_of, place_of}
 use Rattle.codes.specs.Allowed.{allows, accepts}
 use Rattle.decoder.specs.Decoding as decoder

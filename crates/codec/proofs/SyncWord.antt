@@ -32,7 +32,7 @@ use Rattle.decoder.specs.Decoding as decoder
 use Rattle.decoder.specs.Decoding.{reading, stray_at, lacking, lacking_at, judged, decode}
 use Rattle.decoder.proofs.Apart.{refuses-reading}
 use Rattle.decoder.proofs.Stray.{stray-clean}
-use Rattle.std.specs.Prelude.{Option, Some, None, Result, Ok, Err}
+use Rattle.std.specs.Prelude.{Option, Some, None}
 use Rattle.builder.specs.Building as builder
 use Rattle.builder.specs.Building.{makes, first_misfit, unless, builds, checked, plain_by}
 use Rattle.builder.proofs.Taking.{plain-takes}

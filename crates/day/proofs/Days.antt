@@ -13,7 +13,7 @@ use Rattle.refusal.specs.declared.Refusal.{Refusal}
 use Rattle.refusal.specs.Numbers.{number_of}
 use Rattle.decoder.proofs.Handed.{decoded-reading, decoded-refuses}
 use Rattle.decoder.specs.declared.Decoded.{Decoded}
-use Rattle.decoder.specs.Decoding.{Reading, reading, refuses, decoded, decode}
+use Rattle.decoder.specs.Decoding.{decoded, decode}
 use Rattle.book.specs.Plain.{Answer as Said}
 use Rattle.book.specs.Book.{Permits}
 use Rattle.book.specs.History.{Put, after}

@@ -5,7 +5,7 @@ use mathlib.Core.Logic.{⊎_elim}
 use mathlib.Core.Bool.{Bool, true, false, cond, ◌&&◌}
 use mathlib.Core.List.{List, [], ◌∷◌}
 use Prim.Native.Nat.{ℕ, zero, suc, ◌+◌, ◌-◌, ◌*◌, ◌/◌, ◌%◌, ◌^◌, ◌≤◌, ◌<◌}
-use native.Mathlib.Nat.{mod-one, div-one, mod-eq_of_lt, zero-add, add-zero, add-suc, add_comm, add_assoc, mul_assoc, add-mul-mod_self_right, lt_of_lt_of_le}
+use native.Mathlib.Nat.{mod-one, div-one, mod-eq_of_lt, zero-add, add-zero, add-suc, add_comm, mul_assoc, add-mul-mod_self_right, lt_of_lt_of_le}
 use native.Mathlib.Nat.{eq-or-lt_of_le, le_of_suc-le-suc, not-suc-le-zero}
 use native.Mathlib.Omega.{arith}
 use borrow.Author.Tests.{le-leb, lt-leb, lt-ltb, le-ltb, ne_eqb}
@@ -41,12 +41,6 @@ big_end-ext b c (suc n) h = ap₂ (λ (x y : ℕ). x * 256 + y) (big_end-ext b c
 
 pub from_start : (b : ℕ → ℕ) (n : ℕ) → big_end (from 0 b) n ≡ big_end b n
 from_start b n = big_end-ext (from 0 b) b n (λ i l. ap b (zero-add i))
-
--- two halves
-pub eight_is : (b : ℕ → ℕ) (at : ℕ) → big_end (from at b) 4 * 4294967296 + big_end (from (at + 4) b) 4 ≡ big_end (from at b) 8
-eight_is b at =
-    ap (λ (x : ℕ). big_end (from at b) 4 * 4294967296 + x) (big_end-ext (from (at + 4) b) (from 4 (from at b)) 4 (λ i l. ap b (add_assoc at 4 i)))
-    ∙ sym (split (from at b) 4 4)
 
 module _ (b : ℕ → ℕ) (small : (i : ℕ) → b i < 256) where
   pub big_end-lt : (n : ℕ) → big_end b n < 2 ^ (8 * n)

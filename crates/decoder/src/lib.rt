@@ -27,20 +27,21 @@ pub struct Decoded {
 
 // ---- a frame in words
 
-// The number of four bytes, high byte first.
-fn four(s: &[u8], at: usize) -> u64
-    requires { at + 4 ≤ length s.now }
-    ensures { (result ≡ big_end (from at (bytes s.now)) 4) × (result < 4294967296) }
-{
-    ((u64::from(s[at]) * 256 + u64::from(s[at + 1])) * 256 + u64::from(s[at + 2])) * 256
-        + u64::from(s[at + 3])
-}
-
+// The number of eight bytes, high byte first.
 fn eight(s: &[u8], at: usize) -> u64
     requires { at + 8 ≤ length s.now }
     ensures { result ≡ big_end (from at (bytes s.now)) 8 }
 {
-    four(s, at) * 0x1_0000_0000 + four(s, at + 4)
+    u64::from_be_bytes([
+        s[at],
+        s[at + 1],
+        s[at + 2],
+        s[at + 3],
+        s[at + 4],
+        s[at + 5],
+        s[at + 6],
+        s[at + 7],
+    ])
 }
 
 // The number of the first n bytes, of which there are at most eight.
@@ -162,7 +163,9 @@ fn field_of(frame: &[u8], first: u64, last: u64, whole: u64, n: usize, number: u
 }
 
 // The numbers that nine fields of a frame hold; whether no bit is stray for the row at a place, and each number is taken.
-// Straight code over single numbers, so that it can be written out for each row with that row's constants.
+// Straight code over single numbers, so that it can be written out for each row with that row's constants. With frame, words, whole and n as one
+// struct with a method good frames took 27.7 ns in place of 25.1, and an unknown code 52 in place of 41. The arguments are wanted of a bad frame
+// too, to find the field: so a bool beside them, and no Option.
 fn read_fields(
     place: usize,
     frame: &[u8],
@@ -294,7 +297,7 @@ fn opcode_of(frame: &[u8]) -> u64
     requires { 2 ≤ length frame.now }
     ensures { result ≡ opcode frame.now }
 {
-    u64::from(frame[0]) * 256 + u64::from(frame[1])
+    u64::from(u16::from_be_bytes([frame[0], frame[1]]))
 }
 
 // The row with this opcode and length.

@@ -7,7 +7,7 @@ ghost use Rattle.settings.specs.Settings.{slot_for, size_of, slot_of};
 
 use table::kinds;
 
-// What stands for no slot: the table's mark of an action.
+// What stands for no slot: the table's mark of an action, by which rows and laws have it, and which lies past every slot that a caller compares.
 const NO_SLOT: usize = table::ACTION as usize;
 
 // The slot of a kind; NO_SLOT where it is an action, or no kind at all.

@@ -1,10 +1,13 @@
-use mathlib.Core.Path.{ap₂, ◌∙◌}
-use Prim.Native.Nat.{ℕ, ◌+◌, ◌*◌}
+use Prim.Native.Nat.{ℕ}
+use mathlib.Core.Path.{ap}
+use native.Mathlib.Nat.{add-zero}
+use native.Mathlib.Omega.{arith}
 use Rattle.frame.specs.Layout.{bytes}
-use Rattle.decoder.proofs.Words.{eight_is}
+use Rattle.decoder.specs.Words.{big_end}
 use Rattle.decoder.proofs.eight.Goals as goal
 
 pub returns : goal.returns
+unfolding big_end
 returns c =
     let a = c.args in
-    ap₂ (λ (x y : ℕ). x * 4294967296 + y) c.four.ensures.0 c.four-2.ensures.0 ∙ eight_is (bytes a.s.now) a.at
+    omega (arith, ap (λ (i : ℕ). bytes a.s.now i) (add-zero a.at))

@@ -1,5 +1,3 @@
-use mathlib.Core.Path.{ap, sym}
-use Rattle.locker_profile.specs.Steps.{handed}
 use Rattle.locker_profile.proofs.Asking.{handed-reading, handed-refuses}
 use Rattle.locker_profile.proofs.arguments_of.Goals as goal
 
