@@ -1,16 +1,18 @@
--- The loops in their own terms: what stands before the first word (`skipped-..`), how long a word is (`word-..`), whether all its bytes are digits
--- (`digits-..`), and how many newlines there are (`newlines-..`).
+-- The loops in their own terms: what stands before the first word (`skipped-..`), how long a word is (`word_count`), whether all its bytes are digits
+-- (`digits-..`), and how many newlines there are (`newlines_count`).
 -- Assumes nothing.
-use mathlib.Core.Path.{◌≡◌, ◌∙◌}
-use mathlib.Core.Bool.{Bool, cond, false, true}
+use mathlib.Core.Path.{◌≡◌, refl, ap, ◌∙◌}
+use mathlib.Core.Bool.{Bool, cond, false, not, true}
 use mathlib.Core.List.{List, [], ◌∷◌}
 use Prim.Native.Nat.{ℕ, suc, ◌+◌, ◌<◌, ◌≤◌}
 use native.Mathlib.Numerals.{add-one}
 use native.Mathlib.Omega.{arith}
-use borrow.Author.Tests.{eq-eqb, le-ltb, lt-ltb, ne_eqb}
+use borrow.Author.Tests.{le-ltb, lt-ltb}
 use lib.Dec.{eqb}
 use lib.ListN.{drop, drop_of_length-le, get_or, length}
 use lib.Seq.{drop-cons}
+use Rattle.std.specs.List.{count_by, position_or_len}
+use Rattle.std.proofs.lemmas.List.Sums.{sum_by-cons}
 use Rattle.status_list.specs.Words.{all_digits, begins, digit_of, in_comment, is_blank}
 use Rattle.status_list.specs.Found.{newlines_in, skipped_from, word_length}
 
@@ -57,20 +59,15 @@ word-le (b ∷ s) = go (is_blank b) (word-le s)
     go true h = omega arith
     go false h = omega arith
 
-module _ (s : List ℕ) (n : ℕ) (e : word_length s ≡ n + word_length (drop n s)) where
-  pub word-pass : n < length s → is_blank (get_or s n 0) ≡ false → word_length s ≡ n + 1 + word_length (drop (n + 1) s)
-  unfolding word_length
-  word-pass h t =
-      let more : word_length (drop n s) ≡ suc (word_length (drop (n + 1) s)) = rw (from-here s n h, t) in
-      omega arith
-
-  pub word-stop : n < length s → is_blank (get_or s n 0) ≡ true → word_length s ≡ n
-  unfolding word_length
-  word-stop h t = let z : word_length (drop n s) ≡ 0 = rw (from-here s n h, t) in omega arith
-
-  pub word_end : length s ≤ n → word_length s ≡ n
-  unfolding word_length
-  word_end h = let z : word_length (drop n s) ≡ 0 = rw (drop_of_length-le s h) in omega arith
+-- the library's word for it
+pub word_count : (s : List ℕ) → position_or_len is_blank s ≡ word_length s
+unfolding word_length
+word_count [] = refl
+word_count (b ∷ s) = go (is_blank b) (word_count s)
+  where
+    go : (t : Bool) → position_or_len is_blank s ≡ word_length s → cond (not t) (1 + position_or_len is_blank s) 0 ≡ cond t 0 (suc (word_length s))
+    go true e = refl
+    go false e = omega (arith, e)
 
 -- ---- digits
 
@@ -101,19 +98,8 @@ newlines-le (b ∷ s) = go (eqb b 10) (newlines-le s)
     go true h = omega arith
     go false h = omega arith
 
-module _ (s : List ℕ) (n i : ℕ) (e : newlines_in s ≡ n + newlines_in (drop i s)) where
-  pub newlines-one : i < length s → get_or s i 0 ≡ 10 → newlines_in s ≡ n + 1 + newlines_in (drop (i + 1) s)
-  unfolding newlines_in
-  newlines-one h t =
-      let more : newlines_in (drop i s) ≡ 1 + newlines_in (drop (i + 1) s) = rw (from-here s i h, eq-eqb (get_or s i 0) 10 t) in
-      omega arith
-
-  pub newlines-pass : i < length s → (get_or s i 0 ≡ 10 → ⊥) → newlines_in s ≡ n + newlines_in (drop (i + 1) s)
-  unfolding newlines_in
-  newlines-pass h t =
-      let more : newlines_in (drop i s) ≡ 0 + newlines_in (drop (i + 1) s) = rw (from-here s i h, ne_eqb (get_or s i 0) 10 t) in
-      omega arith
-
-  pub newlines-end : length s ≤ i → newlines_in s ≡ n
-  unfolding newlines_in
-  newlines-end h = let z : newlines_in (drop i s) ≡ 0 = rw (drop_of_length-le s h) in omega arith
+-- the library's word for it
+pub newlines_count : (s : List ℕ) → count_by (λ (b : ℕ). eqb b 10) s ≡ newlines_in s
+unfolding newlines_in
+newlines_count [] = refl
+newlines_count (b ∷ s) = sum_by-cons (λ (b : ℕ). cond (eqb b 10) 1 0) b s ∙ ap (λ (n : ℕ). cond (eqb b 10) 1 0 + n) (newlines_count s)

@@ -3,9 +3,10 @@
 // proofs/Laws.antt says that so all words of the text are found, in their order.
 #![tactic(auto)]
 
-ghost use Rattle.std.specs.Prelude.{◌≡◌, false, ◌<◌};
+ghost use Rattle.std.specs.Prelude.{◌≡◌, count_by, false, ◌<◌, ◌==◌};
+ghost use Rattle.std.specs.List.{position_or_len};
 ghost use Rattle.status_list.specs.Words.{all_digits, begins, digit_of, in_comment, is_blank, pair_of};
-ghost use Rattle.status_list.specs.Found.{byte_before, found_at, line_of, newlines_in, said_by, skipped_from, word_length};
+ghost use Rattle.status_list.specs.Found.{byte_before, found_at, line_of, said_by, skipped_from};
 
 // The first word from a place on: the two bytes of a status, and the place behind it; no word; or where one lies that is not four hex digits.
 #[derive(Clone, Copy)]
@@ -22,13 +23,7 @@ pub enum Found {
 pub fn is_blank(b: u8) -> bool
     ensures { result ≡ is_blank b }
 {
-    if b == b' ' {
-        return true;
-    }
-    if b < 9 {
-        return false;
-    }
-    b <= 13
+    b == b' ' || (9 <= b && b <= 13)
 }
 
 // Whether a byte stands in a comment, by whether the one before it does.
@@ -36,16 +31,7 @@ pub fn is_blank(b: u8) -> bool
 fn in_comment(c: bool, before: u8, b: u8) -> bool
     ensures { result ≡ in_comment c before b }
 {
-    if b == b'\n' {
-        return false;
-    }
-    if c {
-        return true;
-    }
-    if before == b'\n' {
-        return b == b'#';
-    }
-    false
+    b != b'\n' && (c || (before == b'\n' && b == b'#'))
 }
 
 // Whether a word begins at a byte.
@@ -53,16 +39,7 @@ fn in_comment(c: bool, before: u8, b: u8) -> bool
 fn word_begins(c: bool, before: u8, b: u8) -> bool
     ensures { result ≡ begins c before b }
 {
-    if is_blank(before) {
-        if is_blank(b) {
-            return false;
-        }
-        if in_comment(c, before, b) {
-            return false;
-        }
-        return true;
-    }
-    false
+    is_blank(before) && !is_blank(b) && !in_comment(c, before, b)
 }
 
 // ---- words
@@ -73,30 +50,21 @@ fn skipped(before: u8, s: &[u8]) -> usize
 {
     let mut c = false;
     let mut last = before;
-    let mut i: usize = 0;
-    while i < s.len() {
-        if word_begins(c, last, s[i]) {
+    for (i, b) in s.iter().enumerate() {
+        if word_begins(c, last, *b) {
             return i;
         }
-        c = in_comment(c, last, s[i]);
-        last = s[i];
-        i += 1;
+        c = in_comment(c, last, *b);
+        last = *b;
     }
-    i
+    s.len()
 }
 
 // How long the word is that stands at the start.
 fn word_length(s: &[u8]) -> usize
-    ensures { result ≡ word_length s.now }
+    ensures { result ≡ position_or_len is_blank s.now }
 {
-    let mut n: usize = 0;
-    while n < s.len() {
-        if is_blank(s[n]) {
-            return n;
-        }
-        n += 1;
-    }
-    n
+    s.iter().take_while(|b| !is_blank(**b)).count()
 }
 
 // What a hex digit says; 16 for any other byte.
@@ -116,12 +84,10 @@ fn digit(b: u8) -> u8
 fn all_digits(word: &[u8]) -> bool
     ensures { result ≡ all_digits word.now }
 {
-    let mut i: usize = 0;
-    while i < word.len() {
-        if 16 <= digit(word[i]) {
+    for b in word {
+        if 16 <= digit(*b) {
             return false;
         }
-        i += 1;
     }
     true
 }
@@ -138,15 +104,12 @@ fn pair(a: u8, b: u8) -> u8
 fn said(word: &[u8], start: usize, end: usize) -> Found
     ensures { result ≡ said_by word.now start end }
 {
-    if word.len() == 4 {
-        if all_digits(word) {
-            return Found::Status {
-                high: pair(word[0], word[1]),
-                low: pair(word[2], word[3]),
-                next: end,
-            };
-        }
-        return Found::Wrong { start, end };
+    if word.len() == 4 && all_digits(word) {
+        return Found::Status {
+            high: pair(word[0], word[1]),
+            low: pair(word[2], word[3]),
+            next: end,
+        };
     }
     Found::Wrong { start, end }
 }
@@ -180,17 +143,9 @@ pub fn next(text: &[u8], at: usize) -> Found
 }
 
 fn newlines(s: &[u8]) -> usize
-    ensures { result ≡ newlines_in s.now }
+    ensures { result ≡ count_by (λ b. b == 10) s.now }
 {
-    let mut n: usize = 0;
-    let mut i: usize = 0;
-    while i < s.len() {
-        if s[i] == b'\n' {
-            n += 1;
-        }
-        i += 1;
-    }
-    n
+    s.iter().filter(|b| **b == b'\n').count()
 }
 
 // The line that the byte at a place is in, counted from 1; 0 where there is no byte.
@@ -198,7 +153,7 @@ pub fn line_of(text: &[u8], at: usize) -> usize
     ensures { result ≡ line_of text.now at }
 {
     if at < text.len() {
-        newlines(&text[0..at]) + 1
+        newlines(&text[..at]) + 1
     } else {
         0
     }

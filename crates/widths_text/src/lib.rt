@@ -114,7 +114,7 @@ fn put_proposals(out: &mut [u8], at: usize, needs: &[u64], codes: &[u8]) -> usiz
 fn capped(n: usize) -> usize
     ensures { result ≡ min n most_kept }
 {
-    if n < KEPT { n } else { KEPT }
+    n.min(KEPT)
 }
 
 // The answer to a list of banks at the start of `out`: how long it is, 0 where the output has fewer than `LONGEST` bytes and is left alone.

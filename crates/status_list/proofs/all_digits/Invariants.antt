@@ -1,13 +1,9 @@
 -- `all_digits` meets its contract: what is passed are digits.
 -- Assumes nothing.
 use mathlib.Core.Path.{◌≡◌}
-use Prim.Native.Nat.{◌-◌, ◌≤◌}
-use lib.ListN.{drop, length}
+use lib.ListN.{drop}
 use Rattle.status_list.specs.Words.{all_digits}
 use Rattle.status_list.proofs.all_digits.Given as goal
 
-abbrev pub invariant-loop-i : goal.invariant-loop-i
-invariant-loop-i l = (l.i ≤ length l.word) × (all_digits l.word ≡ all_digits (drop l.i l.word))
-
-abbrev pub decreases-loop-i : goal.decreases-loop-i
-decreases-loop-i l = length l.word - l.i
+abbrev pub invariant-loop-b : goal.invariant-loop-b
+invariant-loop-b l = all_digits l.word ≡ all_digits (drop l.b-index l.word)

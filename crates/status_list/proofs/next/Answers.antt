@@ -3,6 +3,7 @@
 use mathlib.Core.Path.{sym, ◌∙◌}
 use native.Mathlib.Omega.{arith}
 use Rattle.status_list.proofs.Walks.{found_none, found-past, found_word, skipped-inside, word-inside-text}
+use Rattle.status_list.proofs.Scans.{word_count}
 use Rattle.status_list.proofs.next.Goals as goal
 
 pub returns-then-text-at : goal.returns-then-text-at
@@ -21,14 +22,14 @@ returns-then-text-start c =
 pub overflow_add-end : goal.overflow_add-end
 overflow_add-end c =
     let a = c.args in
-    omega (arith, word-inside-text a.text.now a.at _ _ c.byte_before.ensures c.skipped.ensures _ c.word_length.ensures (omega arith))
+    omega (arith, word-inside-text a.text.now a.at _ _ c.byte_before.ensures c.skipped.ensures _ (c.word_length.ensures ∙ word_count _) (omega arith))
 
 pub slice_bounds-said-end : goal.slice_bounds-said-end
 slice_bounds-said-end c =
     let a = c.args in
-    word-inside-text a.text.now a.at _ _ c.byte_before.ensures c.skipped.ensures _ c.word_length.ensures (omega arith)
+    word-inside-text a.text.now a.at _ _ c.byte_before.ensures c.skipped.ensures _ (c.word_length.ensures ∙ word_count _) (omega arith)
 
 pub returns : goal.returns
 returns c =
     let a = c.args in
-    c.said.ensures ∙ found_word a.text.now a.at _ _ c.byte_before.ensures c.skipped.ensures _ c.word_length.ensures (omega arith)
+    c.said.ensures ∙ found_word a.text.now a.at _ _ c.byte_before.ensures c.skipped.ensures _ (c.word_length.ensures ∙ word_count _) (omega arith)
