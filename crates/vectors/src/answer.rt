@@ -48,10 +48,8 @@ impl Answer {
 
     pub fn bytes(self, s: &[u8]) -> Answer {
         let mut a = self;
-        let mut i: usize = 0;
-        while i < s.len() {
-            a = a.byte(s[i]);
-            i += 1;
+        for b in s {
+            a = a.byte(*b);
         }
         a
     }

@@ -11,10 +11,8 @@ pub fn refused(why: Refusal) -> Answer {
 
 fn arguments(a: Answer, v: [u64; 9]) -> Answer {
     let mut all = a;
-    let mut i: usize = 0;
-    while i < 9 {
-        all = all.put_u64(v[i]);
-        i += 1;
+    for x in v {
+        all = all.put_u64(x);
     }
     all
 }
@@ -33,10 +31,8 @@ pub fn decoded(frame: &[u8]) -> Answer {
 // Twelve arguments, which stand behind the kind.
 fn given(p: &[u8]) -> [u64; 12] {
     let mut args = [0u64; 12];
-    let mut i: usize = 0;
-    while i < 12 {
+    for i in 0..12 {
         args[i] = u64_at(p, 8 * i + 8);
-        i += 1;
     }
     args
 }

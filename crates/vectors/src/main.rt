@@ -37,31 +37,15 @@ fn answer_to(op: u8, aux: usize, p: &[u8]) -> Answer {
         return common::built(op, p);
     }
     // end: builders
-    if op < 73 {
-        if aux <= p.len() {
-            return readers::read_slice(op, &p[0..aux], p);
-        }
+    match op {
+        64..=72 if aux <= p.len() => readers::read_slice(op, &p[0..aux], p),
+        80 if aux <= p.len() => coded::decoded(&p[0..aux]),
+        81 => coded::built(aux, p),
+        82 => widths::checked(aux, p),
+        83 => widths::found(aux, p),
+        84 if aux <= p.len() => profiles::judged(&p[0..aux]),
+        _ => readers::read_numbers(op, p),
     }
-    if op == 80 {
-        if aux <= p.len() {
-            return coded::decoded(&p[0..aux]);
-        }
-    }
-    if op == 81 {
-        return coded::built(aux, p);
-    }
-    if op == 82 {
-        return widths::checked(aux, p);
-    }
-    if op == 83 {
-        return widths::found(aux, p);
-    }
-    if op == 84 {
-        if aux <= p.len() {
-            return profiles::judged(&p[0..aux]);
-        }
-    }
-    readers::read_numbers(op, p)
 }
 
 // The answer for one request.
@@ -73,52 +57,31 @@ fn answer_one(r: &[u8]) -> [u8; 80] {
     a.bytes
 }
 
-fn put(out: &mut [u8], at: usize, a: [u8; 80])
-    requires { at + 80 ≤ length out.old }
-    ensures { length out.new ≡ length out.old }
-{
-    let mut i: usize = 0;
-    while i < ANSWER {
-        out[at + i] = a[i];
-        i += 1;
-    }
-}
-
-fn least(a: usize, b: usize) -> usize
-    ensures { (result ≤ a) × (result ≤ b) }
-{
-    if a < b { a } else { b }
-}
-
 // Puts the answers for the whole requests of s into out, as far as it has room, and tells how many bytes they are.
 fn answer_all(s: &[u8], out: &mut [u8]) -> usize
     ensures { (result ≤ length out.new) × (length out.new ≡ length out.old) }
 {
-    let n = least(s.len() / REQUEST, out.len() / ANSWER);
-    let mut k: usize = 0;
-    while k < n {
+    let n = (s.len() / REQUEST).min(out.len() / ANSWER);
+    for k in 0..n {
         let at = REQUEST * k;
-        let a = answer_one(&s[at..at + REQUEST]);
-        put(out, ANSWER * k, a);
-        k += 1;
+        let to = ANSWER * k;
+        out[to..to + ANSWER].copy_from_slice(&answer_one(&s[at..at + REQUEST]));
     }
     ANSWER * n
 }
 
-// Reads until s is full, the input ends or a read fails, and tells how many bytes came.
+// Reads until s is full, the input ends or a read fails, and tells how many bytes came. `histories` has it too: `front`, where it could stand, is for
+// programs with options (tests/programs), and in a library it would be one more function without its theorem of one outcome (tests/public-functions).
 fn read_full(input: Stdin, s: &mut [u8]) -> usize
     ensures { result ≤ length s.new }
 {
     let mut from = input;
     let mut have: usize = 0;
     while have < s.len() {
-        let Ok(n) = from.read(&mut s[have..]) else {
-            return have;
-        };
-        if n == 0 {
-            return have;
+        match from.read(&mut s[have..]) {
+            Ok(n) if 0 < n => have += n,
+            _ => break,
         }
-        have += n;
     }
     have
 }
@@ -127,17 +90,15 @@ fn read_full(input: Stdin, s: &mut [u8]) -> usize
 fn turn(input: Stdin, output: Stdout, s: &mut [u8], out: &mut [u8]) -> bool {
     let n = read_full(input, s);
     let m = answer_all(&s[..n], out);
-    if Print::write_all(&output, &out[0..m]).is_err() {
-        return false;
-    }
-    n == s.len()
+    Print::write_all(&output, &out[0..m]).is_ok() && n == s.len()
 }
 
-// Nothing says that the input ends, so the turns are counted down from a number that no run uses up.
+// Nothing says that the input ends, so there are more turns than any run uses up.
 fn run(input: Stdin, output: Stdout, s: &mut [u8], out: &mut [u8]) {
-    let mut turns = u64::MAX;
-    while turns > 0 && turn(input, output, s, out) {
-        turns -= 1;
+    for _ in 0..u64::MAX {
+        if !turn(input, output, s, out) {
+            return;
+        }
     }
 }
 

@@ -1,9 +1,0 @@
--- the turns that are left
-use Rattle.std.proofs.Common.{◌≡◌, length}
-use Rattle.vectors.proofs.run.Given as goal
-
-abbrev pub invariant-loop-turns : goal.invariant-loop-turns
-invariant-loop-turns l = (length l.s ≡ length l.fn.s) × (length l.out ≡ length l.fn.out)
-
-abbrev pub decreases-loop-turns : goal.decreases-loop-turns
-decreases-loop-turns l = l.turns
