@@ -2,7 +2,6 @@ use mathlib.Core.Path.{ap, refl, sym, ◌∙◌}
 use Prim.Native.Nat.{ℕ}
 use native.Mathlib.Nat.{sub-zero}
 use native.Mathlib.Omega.{arith}
-use borrow.Author.Rules.{rules}
 use lib.ListN.{take}
 use Rattle.decoder.specs.declared.Decoded.{Decoded}
 use Rattle.decoder.specs.Decoding.{decode, decoded}
@@ -18,7 +17,7 @@ slice_bounds-decode-end c =
 pub returns-in-Ok : goal.returns-in-Ok
 returns-in-Ok c =
     let m = c.in-Ok.n in
-    ap (λ (r : Decoded). record { answer = Ok m; args = r.args })
+    ap (λ (r : Decoded). Ok r.args)
     (c.decode-decoded.ensures ∙ ap (λ (j : ℕ). decoded (decode (take j c.ask-answer.new.out))) (sub-zero m))
     ∙ ask-held _ c.requires _ refl _ m _ (sym c.in-Ok.is ∙ c.ask-answer.ensures.0) c.ask-answer.ensures.1
 
