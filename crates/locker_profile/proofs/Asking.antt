@@ -20,14 +20,14 @@ use Rattle.table.specs.Table.{settings}
 use Rattle.settings.specs.Settings.{size_of, slot_for}
 use Rattle.settings.proofs.Settings.{size-high, slot_of-length}
 use Rattle.contents.specs.Frames.{held}
+use Rattle.contents.proofs.Judged.{apart}
 use Rattle.contents.specs.Contents.{Contents, holds, refused}
-use Rattle.std.specs.Prelude.{Ok, Err}
-use Rattle.book.specs.Plain.{Answer, Turn, ask_on, frame_of, refuse, tell}
+use Rattle.std.specs.Prelude.{Err, Ok, Result}
+use Rattle.book.specs.Plain.{Turn, ask_on, frame_of, refuse, tell}
 use Rattle.book.specs.Book.{Read, call_for, layout_in, on_contents, opened_for, room_in}
 use Rattle.book.specs.History.{Ask, after}
 use Rattle.book.proofs.Calls.{done_refused}
 use Rattle.book.proofs.Laws.{frame-slot}
-use Rattle.locker_profile.specs.declared.Setting.{Setting}
 use Rattle.locker_profile.specs.declared.Answer.TheVariants.{Refused}
 use Rattle.locker_profile.specs.Profile.{answered, arguments_of, frame_for, lora_from, lora_of, profile_of, profiled}
 use Rattle.locker_profile.specs.Steps.{asked_of, given, handed, missing_for, withheld}
@@ -98,22 +98,21 @@ module _ (k : ℕ) (a : slot_for k < settings) (o : List ℕ) (n : length o ≡ 
         by (holds fs) e = told fs (held (slot_for k) fs) refl (rw (ask-list (room_in b) fs) at e)
 
     pub ask-held : (m : ℕ) (out : List ℕ) → Ok m ≡ (after (Ask k o) b).answer → out ≡ (after (Ask k o) b).output
-        → given m (decode (take m out)) ≡ asked_of k (opened_for Read b)
+        → given (decode (take m out)) ≡ asked_of k (opened_for Read b)
     unfolding call_for
     ask-held m out e f = by (opened_for Read b) e f
       where
         told : (fs : List (List ℕ)) (t : Bool) → Ok m ≡ (picked fs t).answer → out ≡ (picked fs t).output
-            → given m (decode (take m out)) ≡ cond t (given (length (frame_for k fs)) (decode (frame_for k fs))) (withheld SettingMissing)
+            → given (decode (take m out)) ≡ cond t (given (decode (frame_for k fs))) (withheld SettingMissing)
         told fs true e f =
             let x = frame_for k fs in
             let l : m ≡ length x = cc in
-            ap (λ (y : List ℕ). given m (decode (take m y))) f
-            ∙ ap (λ (y : List ℕ). given m (decode y)) (take_at x (drop (length x) o) m (sym l))
-            ∙ ap (λ (i : ℕ). given i (decode x)) l
+            ap (λ (y : List ℕ). given (decode (take m y))) f
+            ∙ ap (λ (y : List ℕ). given (decode y)) (take_at x (drop (length x) o) m (sym l))
         told fs false e f = absurd (done_refused m NotHeld e)
 
         by : (c : Contents) → Ok m ≡ (on_contents (layout_in b) (ask_on k) o b c).answer → out ≡ (on_contents (layout_in b) (ask_on k) o b c).output
-            → given m (decode (take m out)) ≡ asked_of k c
+            → given (decode (take m out)) ≡ asked_of k c
         by (refused x) e f = absurd (done_refused m x e)
         by (holds fs) e f =
             told fs (held (slot_for k) fs) (rw (ask-list (room_in b) fs) at e) (rw (ask-list (room_in b) fs) at f)
@@ -123,7 +122,7 @@ module _ (k : ℕ) (a : slot_for k < settings) (o : List ℕ) (n : length o ≡ 
     ask-missing x e = by (opened_for Read b) refl e
       where
         told : (fs : List (List ℕ)) (t : Bool) → Err x ≡ (picked fs t).answer
-            → withheld (missing_for x) ≡ cond t (given (length (frame_for k fs)) (decode (frame_for k fs))) (withheld SettingMissing)
+            → withheld (missing_for x) ≡ cond t (given (decode (frame_for k fs))) (withheld SettingMissing)
         told fs true e = absurd (done_refused (length (frame_for k fs)) x (sym e))
         told fs false e = let same : x ≡ NotHeld = cc in ap (λ (z : Refusal). withheld (missing_for z)) same
 
@@ -139,55 +138,61 @@ pub slots-low : (slot_for 1 < settings) × ((slot_for 2 < settings) × (slot_for
 unfolding slot_for
 slots-low = (omega arith, (omega arith, omega arith))
 
-pub record Has (k : ℕ) (c : Contents) (s : Setting) : Type 0 where
+pub record Has (k : ℕ) (c : Contents) (s : List ℕ) : Type 0 where
   pub frames : List (List ℕ)
   pub opens : c ≡ holds frames
   pub there : held (slot_for k) frames ≡ true
-  pub said : s.args ≡ (handed (decode (frame_for k frames)))
+  pub said : s ≡ handed (decode (frame_for k frames))
 
-module _ (k : ℕ) (s : Setting) where
-  pub has : (c : Contents) (n : ℕ) → s ≡ asked_of k c → s.answer ≡ Ok n → Has k c s
-  has (refused x) n e d = absurd (done_refused n x (sym d ∙ ap (λ (t : Setting). t.answer) e))
-  has (holds fs) n e d = by (held (slot_for k) fs) refl e
+abbrev Told : Type 0
+Told = Result (List ℕ) Refusal
+
+told_apart : (v : List ℕ) (x : Refusal) → ◌≡◌ {A = Told} (Ok v) (Err x) → ⊥
+told_apart v x q = apart (cc)
+
+module _ (k : ℕ) (a : Told) where
+  pub has : (c : Contents) (s : List ℕ) → a ≡ asked_of k c → a ≡ Ok s → Has k c s
+  has (refused x) s e d = absurd (told_apart s x (sym d ∙ e))
+  has (holds fs) s e d = by (held (slot_for k) fs) refl e
     where
       by : (t : Bool) → held (slot_for k) fs ≡ t
-          → s ≡ cond t (given (length (frame_for k fs)) (decode (frame_for k fs))) (withheld SettingMissing) → Has k (holds fs) s
-      by true h q = record { frames = fs; opens = refl; there = h; said = ap (λ (t : Setting). t.args) q }
-      by false h q = absurd (done_refused n SettingMissing (sym d ∙ ap (λ (t : Setting). t.answer) q))
+          → a ≡ cond t (given (decode (frame_for k fs))) (withheld SettingMissing) → Has k (holds fs) s
+      by true h q = let w : ◌≡◌ {A = Told} (Ok s) (given (decode (frame_for k fs))) = sym d ∙ q in record { frames = fs; opens = refl; there = h; said = cc }
+      by false h q = absurd (told_apart s SettingMissing (sym d ∙ q))
 
-  pub lacks : (fs : List (List ℕ)) (x : Refusal) → s ≡ asked_of k (holds fs) → s.answer ≡ Err x
+  pub lacks : (fs : List (List ℕ)) (x : Refusal) → a ≡ asked_of k (holds fs) → a ≡ Err x
       → (held (slot_for k) fs ≡ false) × (x ≡ SettingMissing)
   lacks fs x e d = by (held (slot_for k) fs) e
     where
-      by : (t : Bool) → s ≡ cond t (given (length (frame_for k fs)) (decode (frame_for k fs))) (withheld SettingMissing)
+      by : (t : Bool) → a ≡ cond t (given (decode (frame_for k fs))) (withheld SettingMissing)
           → (t ≡ false) × (x ≡ SettingMissing)
-      by true q = absurd (done_refused (length (frame_for k fs)) x (sym (ap (λ (t : Setting). t.answer) q) ∙ d))
-      by false q = let w : ◌≡◌ {A = Answer} (Err x) (Err SettingMissing) = sym d ∙ ap (λ (t : Setting). t.answer) q in (refl, cc)
+      by true q = absurd (told_apart (handed (decode (frame_for k fs))) x (sym q ∙ d))
+      by false q = let w : ◌≡◌ {A = Told} (Err x) (Err SettingMissing) = sym d ∙ q in (refl, cc)
 
 -- which answer each of the three leads to
-module _ (c : Contents) (x : Refusal) (one : Setting) (a : one ≡ asked_of 1 c) where
-  pub refused-first : one.answer ≡ Err x → Refused x ≡ profiled c
+module _ (c : Contents) (x : Refusal) (one : Told) (a : one ≡ asked_of 1 c) where
+  pub refused-first : one ≡ Err x → Refused x ≡ profiled c
   unfolding profile_of
   refused-first d = by c a
     where
       by : (c : Contents) → one ≡ asked_of 1 c → Refused x ≡ profiled c
-      by (refused y) e = let w : ◌≡◌ {A = Answer} (Err x) (Err y) = sym d ∙ ap (λ (t : Setting). t.answer) e in let z : x ≡ y = cc in ap (λ (r : Refusal). Refused r) z
+      by (refused y) e = let w : ◌≡◌ {A = Told} (Err x) (Err y) = sym d ∙ e in let z : x ≡ y = cc in ap (λ (r : Refusal). Refused r) z
       by (holds fs) e = let l = lacks 1 one fs x e d in rw l.0 (ap (λ (r : Refusal). Refused r) l.1)
 
-  module _ (n : ℕ) (d : one.answer ≡ Ok n) (two : Setting) (b : two ≡ asked_of 2 c) where
-    pub refused-second : two.answer ≡ Err x → Refused x ≡ profiled c
+  module _ (u : List ℕ) (d : one ≡ Ok u) (two : Told) (b : two ≡ asked_of 2 c) where
+    pub refused-second : two ≡ Err x → Refused x ≡ profiled c
     unfolding profile_of
     refused-second e =
-        let h = has 1 one c n a d in
+        let h = has 1 one c u a d in
         let l = lacks 2 two h.frames x (b ∙ ap (asked_of 2) h.opens) e in
         rw (h.opens, h.there, l.0) (ap (λ (r : Refusal). Refused r) l.1)
 
-    module _ (m : ℕ) (e : two.answer ≡ Ok m) (four : Setting) (g : four ≡ asked_of 4 c) where
-      pub refused-fourth : four.answer ≡ Err x → Refused x ≡ profiled c
+    module _ (v : List ℕ) (e : two ≡ Ok v) (four : Told) (g : four ≡ asked_of 4 c) where
+      pub refused-fourth : four ≡ Err x → Refused x ≡ profiled c
       unfolding profile_of
       refused-fourth f =
-          let h = has 1 one c n a d in
-          let i = has 2 two c m b e in
+          let h = has 1 one c u a d in
+          let i = has 2 two c v b e in
           let same : holds i.frames ≡ holds h.frames = sym i.opens ∙ h.opens in
           let l = lacks 4 four h.frames x (g ∙ ap (asked_of 4) h.opens) f in
           let there : held (slot_for 2) h.frames ≡ true = ap (held (slot_for 2)) (cc) ∙ i.there in
@@ -199,8 +204,8 @@ unfolding lora_of
 lora-same f g h =
     rw (argument_is f 0, argument_is f 1, argument_is f 2, argument_is f 3, argument_is g 2, argument_is g 3, argument_is h 0)
 
-pub all-judged : (c : Contents) (one two four : Setting) → Has 1 c one → Has 2 c two → Has 4 c four
-    → answered (lora_from one.args two.args four.args) ≡ profiled c
+pub all-judged : (c : Contents) (one two four : List ℕ) → Has 1 c one → Has 2 c two → Has 4 c four
+    → answered (lora_from one two four) ≡ profiled c
 unfolding profile_of
 all-judged c one two four h i j =
     let p : holds i.frames ≡ holds h.frames = sym i.opens ∙ h.opens in

@@ -35,7 +35,6 @@ use Rattle.locker_profile.specs.declared.Answer.TheVariants.{Broken, Refused, Ye
 use Rattle.locker_profile.specs.Rules.{first_broken, rules}
 use Rattle.locker_profile.specs.Profile.{answer_for, answered, frame_for, holds_all, judged, lora_from, lora_in, lora_of, profile_of, profiled}
 use Rattle.locker_profile.proofs.Rules.{AllKept, Failing, fails-place, kept-none, none_kept, place-fails}
-use Rattle.locker_profile.specs.declared.Setting.{Setting}
 use Rattle.locker_profile.specs.Steps.{asked_of, given, missing_for, withheld}
 use Rattle.locker_profile.proofs.Bounds.{opened_for-own, own-not}
 use Rattle.locker_profile.proofs.Asking.{all-judged, ask-held, ask-missing, has, refused-first, refused-fourth, refused-second, slots-low}
@@ -187,33 +186,33 @@ books-agree b c fs gs e f i j k = ap profiled e ∙ others-change-nothing fs gs 
 -- ---- three asks decide
 
 -- the first refusal of three settings, or what the rules say of them
-abbrev unless : Result ℕ Refusal → Answer → Answer
-unless (Ok n) a = a
-unless (Err x) a = Refused x
+abbrev unless : Result (List ℕ) Refusal → (List ℕ → Answer) → Answer
+unless (Ok v) f = f v
+unless (Err x) f = Refused x
 
-abbrev decided : Setting → Setting → Setting → Answer
+abbrev decided : Result (List ℕ) Refusal → Result (List ℕ) Refusal → Result (List ℕ) Refusal → Answer
 decided one two four =
-    unless one.answer (unless two.answer (unless four.answer (answered (lora_from one.args two.args four.args))))
+    unless one (λ (u : List ℕ). unless two (λ (v : List ℕ). unless four (λ (w : List ℕ). answered (lora_from u v w))))
 
 profiled-decided : (c : Contents) → decided (asked_of 1 c) (asked_of 2 c) (asked_of 4 c) ≡ profiled c
-profiled-decided c = first (asked_of 1 c).answer refl
+profiled-decided c = first (asked_of 1 c) refl
   where
-    fourth : (n : ℕ) → (asked_of 1 c).answer ≡ Ok n → (m : ℕ) → (asked_of 2 c).answer ≡ Ok m → (a : Result ℕ Refusal) → (asked_of 4 c).answer ≡ a
-        → unless a (answered (lora_from (asked_of 1 c).args (asked_of 2 c).args (asked_of 4 c).args)) ≡ profiled c
-    fourth n d m e (Ok i) f =
-        all-judged c (asked_of 1 c) (asked_of 2 c) (asked_of 4 c) (has 1 (asked_of 1 c) c n refl d) (has 2 (asked_of 2 c) c m refl e)
-        (has 4 (asked_of 4 c) c i refl f)
-    fourth n d m e (Err x) f = refused-fourth c x (asked_of 1 c) refl n d (asked_of 2 c) refl m e (asked_of 4 c) refl f
+    fourth : (u : List ℕ) → asked_of 1 c ≡ Ok u → (v : List ℕ) → asked_of 2 c ≡ Ok v → (a : Result (List ℕ) Refusal) → asked_of 4 c ≡ a
+        → unless a (λ (w : List ℕ). answered (lora_from u v w)) ≡ profiled c
+    fourth u d v e (Ok w) f =
+        all-judged c u v w (has 1 (asked_of 1 c) c u refl d) (has 2 (asked_of 2 c) c v refl e)
+        (has 4 (asked_of 4 c) c w refl f)
+    fourth u d v e (Err x) f = refused-fourth c x (asked_of 1 c) refl u d (asked_of 2 c) refl v e (asked_of 4 c) refl f
 
-    second : (n : ℕ) → (asked_of 1 c).answer ≡ Ok n → (a : Result ℕ Refusal) → (asked_of 2 c).answer ≡ a
-        → unless a (unless (asked_of 4 c).answer (answered (lora_from (asked_of 1 c).args (asked_of 2 c).args (asked_of 4 c).args))) ≡ profiled c
-    second n d (Ok m) e = fourth n d m e (asked_of 4 c).answer refl
-    second n d (Err x) e = refused-second c x (asked_of 1 c) refl n d (asked_of 2 c) refl e
+    second : (u : List ℕ) → asked_of 1 c ≡ Ok u → (a : Result (List ℕ) Refusal) → asked_of 2 c ≡ a
+        → unless a (λ (v : List ℕ). unless (asked_of 4 c) (λ (w : List ℕ). answered (lora_from u v w))) ≡ profiled c
+    second u d (Ok v) e = fourth u d v e (asked_of 4 c) refl
+    second u d (Err x) e = refused-second c x (asked_of 1 c) refl u d (asked_of 2 c) refl e
 
-    first : (a : Result ℕ Refusal) → (asked_of 1 c).answer ≡ a
-        → unless a (unless (asked_of 2 c).answer (unless (asked_of 4 c).answer (answered (lora_from (asked_of 1 c).args (asked_of 2 c).args (asked_of 4 c).args))))
+    first : (a : Result (List ℕ) Refusal) → asked_of 1 c ≡ a
+        → unless a (λ (u : List ℕ). unless (asked_of 2 c) (λ (v : List ℕ). unless (asked_of 4 c) (λ (w : List ℕ). answered (lora_from u v w))))
         ≡ profiled c
-    first (Ok n) d = second n d (asked_of 2 c).answer refl
+    first (Ok u) d = second u d (asked_of 2 c) refl
     first (Err x) d = refused-first c x (asked_of 1 c) refl d
 
 -- what is heard of an ask
@@ -221,11 +220,11 @@ abbrev heard_of : List ℕ → ℕ → List ℕ → Heard
 heard_of b k o = record { answer = (after (Ask k o) b).answer; output = (after (Ask k o) b).output }
 
 -- the setting that it tells of
-abbrev told_by : Result ℕ Refusal → List ℕ → Setting
-told_by (Ok m) out = given m (decode (take m out))
+abbrev told_by : Result ℕ Refusal → List ℕ → Result (List ℕ) Refusal
+told_by (Ok m) out = given (decode (take m out))
 told_by (Err x) out = withheld (missing_for x)
 
-abbrev told : Heard → Setting
+abbrev told : Heard → Result (List ℕ) Refusal
 told h = told_by h.answer h.output
 
 heard-setting : (k : ℕ) → slot_for k < settings → (o : List ℕ) → length o ≡ 12 → (b : List ℕ) → told (heard_of b k o) ≡ asked_of k (opened_for Read b)

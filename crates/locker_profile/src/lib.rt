@@ -10,7 +10,7 @@ ghost use Rattle.cmd_lora.specs.Methods.{over};
 ghost use Rattle.book.specs.Book.{opened_for, Read};
 ghost use Rattle.locker_profile.specs.Rules.{due_for, first_broken, is_long, rate, rules, spreading_factor, width, width_of};
 ghost use Rattle.locker_profile.specs.Profile.{answered, answer_for, lora_from};
-ghost use Rattle.locker_profile.specs.Steps.{asked_of, handed, missing_for};
+ghost use Rattle.locker_profile.specs.Steps.{answer_from, asked_of, handed, missing_for};
 
 use cmd_lora::{HeaderType, Ldro, LoraBw, LoraCr, Sf};
 use refusal::Refusal;
@@ -37,13 +37,6 @@ struct Lora {
 
 // ---- what the book holds
 
-// What a book says of a setting that it is asked for, and, where it holds it, the setting's arguments.
-#[derive(Clone, Copy)]
-struct Setting {
-    pub answer: book::Answer,
-    pub args: [u64; 9],
-}
-
 // What an ask calls not held, 9, is a missing setting here, 22; the book's own refusals stay.
 fn missing(why: Refusal) -> Refusal
     ensures { result ≡ missing_for why }
@@ -65,8 +58,8 @@ fn arguments_of(frame: &[u8]) -> [u64; 9]
     }
 }
 
-// No frame is longer than 12 bytes: an ask is refused by the book itself, or because it holds no frame of the kind.
-fn asked(book: &[u8], kind: u64) -> Setting
+// A setting's arguments. No frame is longer than 12 bytes: an ask is refused by the book itself, or because it holds no frame of the kind.
+fn asked(book: &[u8], kind: u64) -> Result<[u64; 9], Refusal>
     requires { slot_for kind < settings }
     ensures { result ≡ asked_of kind (opened_for Read book.now) }
 {
@@ -75,26 +68,23 @@ fn asked(book: &[u8], kind: u64) -> Setting
     match answer {
         Ok(n) => {
             let args = arguments_of(&frame[0..n]);
-            Setting { answer, args }
+            Ok(args)
         }
-        Err(why) => Setting {
-            answer: Err(missing(why)),
-            args: [0u64; 9],
-        },
+        Err(why) => Err(missing(why)),
     }
 }
 
-fn lora_of(modulation: Setting, packet: Setting, sync: Setting) -> Lora
-    ensures { result ≡ lora_from modulation.args packet.args sync.args }
+fn lora_of(modulation: [u64; 9], packet: [u64; 9], sync: [u64; 9]) -> Lora
+    ensures { result ≡ lora_from modulation packet sync }
 {
     Lora {
-        sf: modulation.args[0],
-        lora_bw: modulation.args[1],
-        lora_cr: modulation.args[2],
-        ldro: modulation.args[3],
-        header_type: packet.args[2],
-        crc_en: packet.args[3],
-        syncword: sync.args[0],
+        sf: modulation[0],
+        lora_bw: modulation[1],
+        lora_cr: modulation[2],
+        ldro: modulation[3],
+        header_type: packet[2],
+        crc_en: packet[3],
+        syncword: sync[0],
     }
 }
 
@@ -200,24 +190,22 @@ fn judge(lora: Lora) -> Answer
 
 // ---- the answer
 
+// What the rules look at. A book is refused as an ask of it would be, and then where it lacks kind 1, 2 or 4.
+fn lora_in(book: &[u8]) -> Result<Lora, Refusal>
+    ensures { answer_from result ≡ answer_for book.now }
+{
+    let modulation = asked(book, 1)?;
+    let packet = asked(book, 2)?;
+    let sync = asked(book, 4)?;
+    Ok(lora_of(modulation, packet, sync))
+}
+
 // Whether a book keeps the rules. It is refused as an ask of it would be, and then where it lacks kind 1, 2 or 4.
 pub fn check(book: &[u8]) -> Answer
     ensures { result ≡ answer_for book.now }
 {
-    let modulation = asked(book, 1);
-    let first = modulation.answer;
-    if let Err(why) = first {
-        return Answer::Refused(why);
+    match lora_in(book) {
+        Ok(lora) => judge(lora),
+        Err(why) => Answer::Refused(why),
     }
-    let packet = asked(book, 2);
-    let second = packet.answer;
-    if let Err(why) = second {
-        return Answer::Refused(why);
-    }
-    let sync = asked(book, 4);
-    let fourth = sync.answer;
-    if let Err(why) = fourth {
-        return Answer::Refused(why);
-    }
-    judge(lora_of(modulation, packet, sync))
 }

@@ -17,7 +17,7 @@ slice_bounds-arguments_of-end c =
 pub returns-in-Ok : goal.returns-in-Ok
 returns-in-Ok c =
     let m = c.in-Ok.n in
-    ap (λ (l : List ℕ). record { answer = Ok m; args = l })
+    ap (λ (l : List ℕ). Ok l)
     (c.arguments_of-args.ensures ∙ ap (λ (j : ℕ). handed (decode (take j c.ask-answer.new.out))) (sub-zero m))
     ∙ ask-held _ c.requires _ refl _ m _ (sym c.in-Ok.is ∙ c.ask-answer.ensures.0) c.ask-answer.ensures.1
 
