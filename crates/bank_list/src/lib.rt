@@ -271,7 +271,7 @@ fn after_line(l: Listed, line: usize, said: Line) -> Result<Listed, WrongLine>
 }
 
 // Reads the banks of a text, or its first wrong line. Lines done are counted, and not the next one's number, which a text of the greatest length would
-// take past 64 bits. The library's `split` is no plainer here: of its pieces a proof knows only the run, and it gives an empty one behind the last newline.
+// take past 64 bits.
 pub fn read(text: &[u8]) -> Result<Listed, WrongLine>
     ensures { result ≡ listed (parsed text.now) }
 {

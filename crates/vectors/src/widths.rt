@@ -23,16 +23,16 @@ fn need(p: &[u8], bank: usize) -> u64 {
 
 fn needs(p: &[u8]) -> [u64; 34] {
     let mut all = [0u64; 34];
-    for i in 0..MOST {
-        all[i] = need(p, i);
+    for (i, slot) in all.iter_mut().enumerate() {
+        *slot = need(p, i);
     }
     all
 }
 
 fn codes(p: &[u8]) -> [u8; 34] {
     let mut all = [0u8; 34];
-    for i in 0..MOST {
-        all[i] = byte(p, CODES + i);
+    for (i, slot) in all.iter_mut().enumerate() {
+        *slot = byte(p, CODES + i);
     }
     all
 }
