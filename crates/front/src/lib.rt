@@ -32,7 +32,8 @@ const ENAMETOOLONG: i32 = 36;
 
 const EILSEQ: i32 = 84;
 
-// A program's front: its name, which each message begins with, and the standard streams, as its `main` has them.
+// A program's front: its name, which each message begins with, and the standard streams, as its `main` has them. The runtime stays beside it: three of
+// the methods need that, and each of them and each function of a program would be generic over it.
 #[derive(Clone, Copy)]
 pub struct Front<'a> {
     pub program: &'a [u8],
@@ -45,7 +46,8 @@ pub struct Front<'a> {
 #[derive(Clone, Copy, Debug, PartialEq, Eq)]
 pub struct Closed;
 
-// An input: its descriptor, and how many bytes of `arg` are its name; the file, where it is no standard input.
+// An input: its descriptor, and how many bytes of `arg` are its name; the file, where it is no standard input. The descriptor stays beside the file: the
+// law `standard-called` speaks of it, and `control` compares two.
 #[derive(Drop)]
 pub struct Input {
     pub fd: i32,
@@ -69,7 +71,7 @@ pub struct Content {
 
 // ---- the texts of errors
 
-// The text of an error, as far as there is room.
+// The text of an error, as far as there is room: a buffer and its length, as there is no heap.
 #[derive(Drop)]
 struct Reason {
     bytes: [u8; 300],
@@ -431,7 +433,7 @@ impl Front<'_> {
         self.read_on(input, s, n)
     }
 
-    // Reads until the input ends or the buffer is full, since a pipe gives pieces, and tells how many bytes came.
+    // Reads until the input ends or the buffer is full, since a pipe gives pieces, and tells how many bytes came. No index is counted: a read gives the step.
     fn read_whole(&self, input: &Input, s: &mut [u8]) -> Result<usize, Error>
         ensures long { length s.new ≡ length s.old }
         ensures most { IfOk result (λ n. n ≤ length s.new) }

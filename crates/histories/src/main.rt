@@ -66,7 +66,7 @@ fn step(
     from + answer(r, &mut book[0..have], &mut lent[0..o], &mut out[from..])
 }
 
-// Answers the records of a block, and tells how long the book's buffer is then, if all is written.
+// Answers the records of a block, each as long as it says itself, and tells how long the book's buffer is then, if all is written.
 fn block(
     output: Stdout,
     len: usize,
