@@ -1,6 +1,5 @@
 use mathlib.Core.Path.{◌≡◌}
-use Prim.Native.Nat.{◌-◌, ◌≤◌}
-use lib.ListN.{drop, length}
+use lib.ListN.{drop}
 use Rattle.table.specs.Table.{forms}
 use Rattle.contents.specs.Contents.{present_for}
 use Rattle.forms.specs.Forms.{both_in, in_both}

@@ -1,6 +1,5 @@
 use mathlib.Core.Path.{◌≡◌}
-use Prim.Native.Nat.{◌-◌, ◌≤◌}
-use lib.ListN.{drop, length}
+use lib.ListN.{drop}
 use Rattle.table.specs.Table.{forms}
 use Rattle.forms.specs.Forms.{other, other_in}
 use Rattle.forms.proofs.other_form.Given as goal

@@ -1,6 +1,5 @@
 use mathlib.Core.Path.{sym, ◌∙◌, ◌≡◌}
 use mathlib.Core.Bool.{false, true}
-use native.Mathlib.Omega.{arith}
 use lib.ListN.{get_or}
 use Rattle.owners.specs.Owners.{is_side}
 use Rattle.owners.proofs.Loops.{each-end, each-pass, each-stop}

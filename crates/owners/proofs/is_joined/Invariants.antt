@@ -1,6 +1,5 @@
 use mathlib.Core.Path.{◌≡◌}
-use Prim.Native.Nat.{◌-◌, ◌≤◌}
-use lib.ListN.{drop, length}
+use lib.ListN.{drop}
 use Rattle.table.specs.Table.{forms}
 use Rattle.owners.specs.Owners.{joined, joined_in}
 use Rattle.owners.proofs.is_joined.Given as goal

@@ -1,6 +1,5 @@
 use mathlib.Core.Path.{◌≡◌}
-use Prim.Native.Nat.{◌-◌}
-use lib.ListN.{drop, length}
+use lib.ListN.{drop}
 use Rattle.owners.specs.Owners.{all_first, spare_first}
 use Rattle.owners.proofs.spare_first.Given as goal
 
