@@ -25,8 +25,8 @@ use Rattle.book.specs.Book.{Read, layout_in, opened_for}
 use Rattle.book.proofs.Kept.{opened-kept}
 use Rattle.controller.specs.declared.State.{State}
 use Rattle.controller.specs.declared.State.TheVariants.{Done, Running, Stopped}
-use Rattle.controller.specs.declared.Answer.{Answer}
-use Rattle.controller.specs.declared.Answer.TheVariants as answer
+use Rattle.controller.specs.Controller.{Answer}
+use Rattle.std.specs.Prelude.{Err, Ok}
 use Rattle.controller.specs.declared.Sending.{Sending}
 use Rattle.controller.specs.declared.Turn.{Turn}
 use Rattle.controller.specs.declared.Turn.TheVariants as turn
@@ -203,7 +203,7 @@ last-most q (w ∷ ws) st s = go (is_running st) (is_status w.bytes) (last-most 
 
 -- ---- texts
 
-start-near : (fs : List (List ℕ)) (st : State) → start_of (holds fs) ≡ answer.Now st → Near (length fs) st × (left (length fs) st ≤ length fs + 1)
+start-near : (fs : List (List ℕ)) (st : State) → start_of (holds fs) ≡ Ok st → Near (length fs) st × (left (length fs) st ≤ length fs + 1)
 start-near fs st e = go (eqb (length fs) 0) refl e
   where
     n : ℕ
@@ -212,29 +212,29 @@ start-near fs st e = go (eqb (length fs) 0) refl e
     first : Bool → State
     first t = cond t Done (Running 0)
 
-    is : (t : Bool) → answer.Now (first t) ≡ answer.Now st → first t ≡ st
+    is : (t : Bool) → ◌≡◌ {A = Answer} (Ok (first t)) (Ok st) → first t ≡ st
     is t f = cc
 
-    go : (t : Bool) → eqb n 0 ≡ t → answer.Now (first t) ≡ answer.Now st → Near n st × (left n st ≤ n + 1)
+    go : (t : Bool) → eqb n 0 ≡ t → ◌≡◌ {A = Answer} (Ok (first t)) (Ok st) → Near n st × (left n st ≤ n + 1)
     go true f g = subst (λ (z : State). Near n z × (left n z ≤ n + 1)) (is true g) (tt, omega arith)
     go false f g =
         let some : n ≡ 0 → ⊥ = eqb-false n 0 f in
         subst (λ (z : State). Near n z × (left n z ≤ n + 1)) (is false g) ((omega arith, omega arith), omega arith)
 
 -- a run begins with no frame sent
-pub start_none : (q : Contents) (st : State) → start_of q ≡ answer.Now st → sent_of st ≡ 0
+pub start_none : (q : Contents) (st : State) → start_of q ≡ Ok st → sent_of st ≡ 0
 start_none (refused x) st e = absurd (let z : ◌≡◌ {A = ℕ} 0 1 = cc in omega arith)
 start_none (holds fs) st e = go (eqb (length fs) 0) e
   where
-    go : (t : Bool) → answer.Now (cond t Done (Running 0)) ≡ answer.Now st → sent_of st ≡ 0
+    go : (t : Bool) → ◌≡◌ {A = Answer} (Ok (cond t Done (Running 0))) (Ok st) → sent_of st ≡ 0
     go true f = let is : Done ≡ st = cc in ap sent_of (sym is)
     go false f = let is : Running 0 ≡ st = cc in ap sent_of (sym is)
 
 text-most : (q : Contents) (ws : List Word) → ((fs : List (List ℕ)) → q ≡ holds fs → Sendable fs) → (a : Answer) → start_of q ≡ a
     → length (text_of (played_by q ws a)) ≤ longest
-text-most q ws S (answer.Refused x) e = omega (arith, refused-most x)
-text-most (refused x) ws S (answer.Now st) e = absurd (let z : ◌≡◌ {A = ℕ} 0 1 = cc in omega arith)
-text-most (holds fs) ws S (answer.Now st) e =
+text-most q ws S (Err x) e = omega (arith, refused-most x)
+text-most (refused x) ws S (Ok st) e = absurd (let z : ◌≡◌ {A = ℕ} 0 1 = cc in omega arith)
+text-most (holds fs) ws S (Ok st) e =
     let s = S fs refl in
     let near = start-near fs st e in
     let p : Play = played_from (holds fs) st unheard ws in

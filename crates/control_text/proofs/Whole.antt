@@ -18,8 +18,8 @@ use Rattle.status_list.specs.Words.{words_in}
 use Rattle.status_list.proofs.Laws.{words-within}
 use Rattle.book.specs.Book.{Read, opened_for}
 use Rattle.controller.specs.declared.State.{State}
-use Rattle.controller.specs.declared.Answer.{Answer}
-use Rattle.controller.specs.declared.Answer.TheVariants as answer
+use Rattle.controller.specs.Controller.{Answer}
+use Rattle.std.specs.Prelude.{Err, Ok}
 use Rattle.controller.specs.Controller.{start_of}
 use Rattle.control_text.specs.declared.Halt.TheVariants.{Ended, Waiting}
 use Rattle.control_text.specs.declared.Played.{Played}
@@ -41,8 +41,8 @@ module _ (b text o : List ℕ) where
   p-within = go (start_of (opened_for Read b))
     where
       go : (a : Answer) → Within (length text) (played_by (opened_for Read b) (words_in text) a).halt
-      go (answer.Now st) = halt-within (length text) (opened_for Read b) (words_in text) st unheard (words-within text)
-      go (answer.Refused x) = tt
+      go (Ok st) = halt-within (length text) (opened_for Read b) (words_in text) st unheard (words-within text)
+      go (Err x) = tt
 
   pub play-short : length o < longest → Plays (record { steps = 0; len = 0; halt = Waiting }) o
   play-short h = (rw (lt-leb longest (length o) h), ((short-whole longest (text_of p) o h).1.0, (omega arith, omega arith, tt)))
@@ -56,7 +56,7 @@ module _ (b text o : List ℕ) where
         let lies : Within (length text) r.halt = subst (Within (length text)) (sym (ap (λ (x : Played). x.halt) e)) p-within in
         (rw (le-leb longest (length o) h) e, (w.1.0, (omega (arith, length-append p.lines p.last), w.1.1, lies)))
 
-    module _ (first : State) (s : start_of (opened_for Read b) ≡ answer.Now first) where
+    module _ (first : State) (s : start_of (opened_for Read b) ≡ Ok first) where
       run_is : p ≡ run_of b first text
       unfolding played
       run_is = ap (played_by (opened_for Read b) (words_in text)) s
@@ -67,11 +67,11 @@ module _ (b text o : List ℕ) where
       pub play-run : (r : Played) (out : List ℕ) → r ≡ told_of (run_of b first text) → out ≡ sets o 0 (text_of (run_of b first text)) → Plays r out
       play-run r out e f = whole r out (e ∙ ap told_of (sym run_is)) (f ∙ ap (λ (x : Play). sets o 0 (text_of x)) (sym run_is))
 
-    pub play-refused : (x : Refusal) (n len : ℕ) (out : List ℕ) → start_of (opened_for Read b) ≡ answer.Refused x → n ≡ number_of x
+    pub play-refused : (x : Refusal) (n len : ℕ) (out : List ℕ) → start_of (opened_for Read b) ≡ Err x → n ≡ number_of x
         → Puts (filled (word "refused 0\n") (n ∷ []) []) 0 o len out → Plays (record { steps = 0; len = len; halt = Ended }) out
     unfolding played
     play-refused x n len out s e u =
-        let is : p ≡ played_by (opened_for Read b) (words_in text) (answer.Refused x) = ap (played_by (opened_for Read b) (words_in text)) s in
+        let is : p ≡ played_by (opened_for Read b) (words_in text) (Err x) = ap (played_by (opened_for Read b) (words_in text)) s in
         let v : Puts (text_of p) 0 o len out = puts-as _ (ap text_of is ∙ refused-form x e) u in
         let r : Played = record { steps = 0; len = len; halt = Ended } in
         whole r out

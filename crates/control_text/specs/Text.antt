@@ -14,8 +14,8 @@ use Rattle.contents.specs.Contents.{Contents}
 use Rattle.book.specs.Book.{Read, opened_for}
 use Rattle.controller.specs.declared.State.{State}
 use Rattle.controller.specs.declared.State.TheVariants.{Done, Running, Stopped}
-use Rattle.controller.specs.declared.Answer.{Answer}
-use Rattle.controller.specs.declared.Answer.TheVariants as answer
+use Rattle.controller.specs.Controller.{Answer}
+use Rattle.std.specs.Prelude.{Err, Ok}
 use Rattle.controller.specs.declared.Sending.{Sending}
 use Rattle.controller.specs.declared.Turn.{Turn}
 use Rattle.controller.specs.declared.Turn.TheVariants as turn
@@ -136,8 +136,8 @@ unheard = 0 ∷ 0 ∷ []
 
 -- A refused book is told by its number alone.
 abbrev pub played_by : Contents → List Word → Answer → Play
-played_by q ws (answer.Now st) = played_from q st unheard ws
-played_by q ws (answer.Refused x) = record { lines = []; last = line (word "refused") (decimal (number_of x) ∷ []); halt = Ended }
+played_by q ws (Ok st) = played_from q st unheard ws
+played_by q ws (Err x) = record { lines = []; last = line (word "refused") (decimal (number_of x) ∷ []); halt = Ended }
 
 -- a run of a book as a read finds it
 unfoldable pub played : Contents → List Word → Play

@@ -12,7 +12,7 @@ ghost use Rattle.book.specs.Book.{Read, opened_for};
 ghost use Rattle.control_text.specs.Text.{Closes, Short, Within, closing, heard, hex_digit, hex_of, is_running, judged_words, longest, played, played_in};
 ghost use Rattle.control_text.specs.Text.{run_of, sent_of, status_name, step_line, text_of, told_of, turn_words};
 
-use controller::{Answer, Sending, State, Turn};
+use controller::{Sending, State, Turn};
 use status::{CmdStatus, Status};
 use status_list::Found;
 use texts::{put_byte, put_decimal, put_form, put_text};
@@ -164,8 +164,8 @@ fn hear(book: &[u8], state: State, status: &[u8]) -> State
 {
     let answer = controller::hear(state, book, status);
     match answer {
-        Answer::Now(next) => next,
-        Answer::Refused(_) => state,
+        Ok(next) => next,
+        Err(_) => state,
     }
 }
 
@@ -238,8 +238,8 @@ pub fn play(book: &[u8], text: &[u8], out: &mut [u8]) -> Played
     }
     let began = controller::start(book);
     match began {
-        Answer::Now(first) => run(book, text, first, out),
-        Answer::Refused(why) => {
+        Ok(first) => run(book, text, first, out),
+        Err(why) => {
             let numbers = [why.number() as u64];
             let len = put_form(out, 0, b"refused 0\n", &numbers);
             Played {

@@ -10,8 +10,8 @@ use Rattle.spans.specs.Spans.{written}
 use Rattle.contents.specs.Contents.{Contents, holds, refused}
 use Rattle.controller.specs.declared.State.{State}
 use Rattle.controller.specs.declared.State.TheVariants.{Done, Running, Stopped}
-use Rattle.controller.specs.declared.Answer.{Answer}
-use Rattle.controller.specs.declared.Answer.TheVariants as answer
+use Rattle.controller.specs.Controller.{Answer}
+use Rattle.std.specs.Prelude.{Err, Ok}
 use Rattle.controller.specs.declared.Sending.{Sending}
 use Rattle.controller.specs.declared.Turn.{Turn}
 use Rattle.controller.specs.declared.Turn.TheVariants as turn
@@ -38,7 +38,7 @@ abbrev starts : List Contents → List Answer
 starts [] = []
 starts (q ∷ qs) = start_of q ∷ starts qs
 
-pub first-states : starts (two ∷ none ∷ broken ∷ []) ≡ answer.Now (Running 0) ∷ answer.Now Done ∷ answer.Refused NotWellFormed ∷ []
+pub first-states : starts (two ∷ none ∷ broken ∷ []) ≡ Ok (Running 0) ∷ Ok Done ∷ Err NotWellFormed ∷ []
 first-states = refl
 
 -- ---- what is sent
@@ -77,7 +77,7 @@ hearings q st (s ∷ ss) = heard_of q st (is_good s) ∷ hearings q st ss
 
 abbrev each : List State → List Answer
 each [] = []
-each (st ∷ sts) = answer.Now st ∷ each sts
+each (st ∷ sts) = Ok st ∷ each sts
 
 abbrev status : ℕ → List ℕ
 status high = high ∷ 0x04 ∷ []
@@ -123,7 +123,7 @@ pub hear-none : hearings none (Running 0) statuses ≡ each (replicate 8 (Runnin
 unfolding heard_on
 hear-none = refl
 
-pub hear-broken : hearings broken (Running 1) statuses ≡ replicate 8 (answer.Refused NotWellFormed)
+pub hear-broken : hearings broken (Running 1) statuses ≡ replicate 8 (Err NotWellFormed)
 hear-broken = refl
 
 -- a status of no byte, of one, and of more than two

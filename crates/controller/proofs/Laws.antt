@@ -20,7 +20,7 @@ use Rattle.refusal.specs.Numbers.{number_of, place_of}
 use Rattle.reel.specs.Reel.{reel_of, unreel}
 use Rattle.reel.proofs.Reels.{reel-whole}
 use Rattle.status.specs.declared.CmdStatus.{CmdStatus}
-use Rattle.status.specs.declared.CmdStatus.TheVariants.{Data, Fail, Ok, PErr, Unknown}
+use Rattle.status.specs.declared.CmdStatus.TheVariants as cmd
 use Rattle.status.specs.Codes.{cmds, good_cmd}
 use Rattle.status.specs.Notation.{field, wide}
 use Rattle.contents.specs.Contents.{Contents, holds, refused}
@@ -33,7 +33,6 @@ use Rattle.book.proofs.Versions.{opened_for-opened}
 use Rattle.book.proofs.Places.{opened_for-says}
 use Rattle.controller.specs.declared.State.{State}
 use Rattle.controller.specs.declared.State.TheVariants as state
-use Rattle.controller.specs.declared.Answer.TheVariants as answer
 use Rattle.controller.specs.declared.Turn.TheVariants as turn
 use Rattle.controller.specs.Controller.{bare, goes_on, heard_of, is_good, is_over, sending_of, sends, sends_of, start_of}
 use Rattle.controller.specs.Runs.{FirstBad, NoneBad, is_ended, run}
@@ -44,7 +43,7 @@ use Rattle.controller.proofs.Runs.{Verdict, bad, ended, fine, first_bad, run-sen
 -- ---- a status, in numbers
 
 -- it is good exactly if its bits 11 to 9 are 2 or 3
-by_number : (v : ℕ) → goes_on (get_or cmds v Unknown) ≡ (leb 2 v && leb v 3)
+by_number : (v : ℕ) → goes_on (get_or cmds v cmd.Unknown) ≡ (leb 2 v && leb v 3)
 by_number zero = refl
 by_number (suc zero) = refl
 by_number (suc (suc zero)) = refl
@@ -58,11 +57,11 @@ good-bits s = by_number (field (wide s 0 1) 11 9)
 
 -- which is when the status reader says that the command succeeded
 pub good-ok : (c : CmdStatus) → goes_on c ≡ good_cmd c
-good-ok Fail = refl
-good-ok PErr = refl
-good-ok Ok = refl
-good-ok Data = refl
-good-ok Unknown = refl
+good-ok cmd.Fail = refl
+good-ok cmd.PErr = refl
+good-ok cmd.Ok = refl
+good-ok cmd.Data = refl
+good-ok cmd.Unknown = refl
 
 -- ---- the first bad status
 
@@ -230,8 +229,8 @@ sends-short b st m = by (opened_for Read b) refl st
 
 -- what is refused is what a read refuses
 pub refused_all : (b : List ℕ) (x : Refusal) → opened_for Read b ≡ refused x → (st : State) (s : List ℕ)
-    → (start_of (opened_for Read b) ≡ answer.Refused x) × ((sending_of (opened_for Read b) st).turn ≡ turn.Refused x)
-    × (heard_of (opened_for Read b) st (is_good s) ≡ answer.Refused x)
+    → (start_of (opened_for Read b) ≡ Err x) × ((sending_of (opened_for Read b) st).turn ≡ turn.Refused x)
+    × (heard_of (opened_for Read b) st (is_good s) ≡ Err x)
 refused_all b x e st s = (
   ap start_of e,
   ap (λ (q : Contents). (sending_of q st).turn) e,
@@ -240,16 +239,16 @@ refused_all b x e st s = (
 
 -- and nothing else is, in any state
 pub refused-own : (b : List ℕ) (x : Refusal) (st : State) (s : List ℕ)
-    → (start_of (opened_for Read b) ≡ answer.Refused x → opened_for Read b ≡ refused x)
+    → (start_of (opened_for Read b) ≡ Err x → opened_for Read b ≡ refused x)
     × ((sending_of (opened_for Read b) st).turn ≡ turn.Refused x → opened_for Read b ≡ refused x)
-    × (heard_of (opened_for Read b) st (is_good s) ≡ answer.Refused x → opened_for Read b ≡ refused x)
+    × (heard_of (opened_for Read b) st (is_good s) ≡ Err x → opened_for Read b ≡ refused x)
 refused-own b x st s = (started (opened_for Read b), sent (opened_for Read b), heard (opened_for Read b))
   where
-    started : (q : Contents) → start_of q ≡ answer.Refused x → q ≡ refused x
+    started : (q : Contents) → start_of q ≡ Err x → q ≡ refused x
     started (refused y) e = let same : y ≡ x = cc in ap refused same
     started (holds fs) e = absurd (let z : ◌≡◌ {A = ℕ} 0 1 = cc in omega arith)
 
-    heard : (q : Contents) → heard_of q st (is_good s) ≡ answer.Refused x → q ≡ refused x
+    heard : (q : Contents) → heard_of q st (is_good s) ≡ Err x → q ≡ refused x
     heard (refused y) e = let same : y ≡ x = cc in ap refused same
     heard (holds fs) e = absurd (let z : ◌≡◌ {A = ℕ} 0 1 = cc in omega arith)
 
@@ -290,8 +289,8 @@ module _ (b : List ℕ) (fs : List (List ℕ)) (opens : opened_for Read b ≡ ho
   last-reads h = ap (λ (q : Contents). sending_of q (state.Running n)) opens ∙ sym (sends-read fs n h refl)
 
   -- AN EMPTY BOOK IS DONE AT ONCE
-  pub empty-done : n ≡ 0 → start_of (opened_for Read b) ≡ answer.Now state.Done
-  empty-done e = ap start_of opens ∙ ap (λ (t : Bool). answer.Now (cond t state.Done (state.Running 0))) (eq-eqb n 0 e)
+  pub empty-done : n ≡ 0 → start_of (opened_for Read b) ≡ Ok state.Done
+  empty-done e = ap start_of opens ∙ ap (λ (t : Bool). Ok (cond t state.Done (state.Running 0))) (eq-eqb n 0 e)
 
   -- THE FRAMES ARE THE REPLAY'S, in its order: what a replay into an output that takes every reel writes is the reel of just these
   pub sent-replay : (o : List ℕ) → longest_reel ≤ length o → (m : ℕ) → (after (Replay o) b).answer ≡ Ok m
@@ -311,8 +310,8 @@ module _ (b : List ℕ) (fs : List (List ℕ)) (opens : opened_for Read b ≡ ho
       same-frames = let z : holds T.frames ≡ holds fs = sym T.opens ∙ opens in cc
 
   module _ (some : 0 < n) where
-    pub some-running : start_of (opened_for Read b) ≡ answer.Now (state.Running 0)
-    some-running = ap start_of opens ∙ ap (λ (t : Bool). answer.Now (cond t state.Done (state.Running 0))) (ne_eqb n 0 (λ e. omega arith))
+    pub some-running : start_of (opened_for Read b) ≡ Ok (state.Running 0)
+    some-running = ap start_of opens ∙ ap (λ (t : Bool). Ok (cond t state.Done (state.Running 0))) (ne_eqb n 0 (λ e. omega arith))
 
     module _ (ss : List (List ℕ)) where
       -- IT STOPS AT THE FIRST FRAME WHOSE STATUS IS BAD

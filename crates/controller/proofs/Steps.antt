@@ -19,7 +19,7 @@ use Rattle.book.specs.Book.{Read, longest_reel, opened_for}
 use Rattle.book.proofs.Told.{Replayed}
 use Rattle.controller.specs.declared.State.{State}
 use Rattle.controller.specs.declared.State.TheVariants as state
-use Rattle.controller.specs.declared.Answer.TheVariants as answer
+use Rattle.std.specs.Prelude.{Err, Ok}
 use Rattle.controller.specs.declared.Sending.{Sending}
 use Rattle.controller.specs.declared.Turn.TheVariants as turn
 use Rattle.controller.specs.Controller.{LiesAt, bare, heard_of, heard_on, is_over, judged_by, onward_of, sending_of, sends, sends_of, start_of}
@@ -147,15 +147,15 @@ module _ (b out : List ℕ) (n : ℕ) (T : Replayed b out n) where
   frames-told : (unreel (take (n - 0) out)).frames ≡ T.frames
   frames-told = ap (λ (x : List ℕ). (unreel x).frames) T.reel ∙ ap (λ (u : Unreeled). u.frames) (reel-whole T.frames)
 
-  pub start-empty : n ≡ 0 → answer.Now state.Done ≡ start_of (opened_for Read b)
+  pub start-empty : n ≡ 0 → Ok state.Done ≡ start_of (opened_for Read b)
   start-empty z =
       sym (ap start_of T.opens
-      ∙ ap (λ (t : Bool). answer.Now (cond t state.Done (state.Running 0))) (eq-eqb (length T.frames) 0 (none-empty T.frames (sym T.size ∙ z))))
+      ∙ ap (λ (t : Bool). Ok (cond t state.Done (state.Running 0))) (eq-eqb (length T.frames) 0 (none-empty T.frames (sym T.size ∙ z))))
 
-  pub start-some : (n ≡ 0 → ⊥) → answer.Now (state.Running 0) ≡ start_of (opened_for Read b)
+  pub start-some : (n ≡ 0 → ⊥) → Ok (state.Running 0) ≡ start_of (opened_for Read b)
   start-some z =
       sym (ap start_of T.opens
-      ∙ ap (λ (t : Bool). answer.Now (cond t state.Done (state.Running 0)))
+      ∙ ap (λ (t : Bool). Ok (cond t state.Done (state.Running 0)))
       (ne_eqb (length T.frames) 0 (some-frames T.frames (λ e. z (T.size ∙ e)))))
 
   pub send-told : (st : State) (r : Sending) → r ≡ sends_of (unreel (take (n - 0) out)).frames st → r ≡ sending_of (opened_for Read b) st
@@ -163,7 +163,7 @@ module _ (b out : List ℕ) (n : ℕ) (T : Replayed b out n) where
       k ∙ ap (λ (x : List (List ℕ)). sends_of x st) frames-told ∙ sym (ap (λ (q : Contents). sending_of q st) T.opens)
 
   pub hear-told : (st : State) (good right : Bool) (r : State) → r ≡ heard_on (length (unreel (take (n - 0) out)).frames) st good → good ≡ right
-      → answer.Now r ≡ heard_of (opened_for Read b) st right
+      → Ok r ≡ heard_of (opened_for Read b) st right
   hear-told st good right r k g =
-      ap answer.Now (k ∙ ap₂ (λ (fs : List (List ℕ)) (t : Bool). heard_on (length fs) st t) frames-told g)
+      ap Ok (k ∙ ap₂ (λ (fs : List (List ℕ)) (t : Bool). heard_on (length fs) st t) frames-told g)
       ∙ sym (ap (λ (q : Contents). heard_of q st right) T.opens)

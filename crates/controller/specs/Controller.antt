@@ -1,6 +1,7 @@
 -- What a step of the controller sends, and where it leaves the controller (REFERENCE, "Controller").
 -- Assumes nothing.
-use Rattle.std.specs.Prelude.{◌≡◌, ℕ, ◌+◌, ◌-◌, ◌<◌, ◌≤◌, Bool, cond, false, true, List, [], eqb, ltb, drop, get_or, length, replicate, take}
+use Rattle.std.specs.Prelude.{◌≡◌, ℕ, ◌+◌, ◌-◌, ◌<◌, ◌≤◌, Bool, cond, false, true, List, [], eqb, ltb, drop, get_or, length, replicate, take, Result, Ok, Err}
+use Rattle.refusal.specs.declared.Refusal.{Refusal}
 use Rattle.status.specs.declared.CmdStatus.{CmdStatus}
 use Rattle.status.specs.declared.CmdStatus.TheVariants as cmd
 use Rattle.status.specs.Words.{cmd_in, status_of}
@@ -8,8 +9,6 @@ use Rattle.spans.specs.Spans.{written}
 use Rattle.contents.specs.Contents.{Contents, holds, refused}
 use Rattle.controller.specs.declared.State.{State}
 use Rattle.controller.specs.declared.State.TheVariants as state
-use Rattle.controller.specs.declared.Answer.{Answer}
-use Rattle.controller.specs.declared.Answer.TheVariants as answer
 use Rattle.controller.specs.declared.Sending.{Sending}
 use Rattle.controller.specs.declared.Turn.{Turn}
 use Rattle.controller.specs.declared.Turn.TheVariants as turn
@@ -67,18 +66,22 @@ sends_of fs (state.Stopped p) = bare turn.Over
 
 -- ---- over a book as a read finds it: its own refusals come first, whatever the state is
 
+-- the state as it is now, or why the book is refused
+abbrev pub Answer : Type 0
+Answer = Result State Refusal
+
 -- An empty book is done at once.
 abbrev pub start_of : Contents → Answer
-start_of (refused x) = answer.Refused x
-start_of (holds fs) = answer.Now (cond (eqb (length fs) 0) state.Done (state.Running 0))
+start_of (refused x) = Err x
+start_of (holds fs) = Ok (cond (eqb (length fs) 0) state.Done (state.Running 0))
 
 abbrev pub sending_of : Contents → State → Sending
 sending_of (refused x) st = bare (turn.Refused x)
 sending_of (holds fs) st = sends_of fs st
 
 abbrev pub heard_of : Contents → State → Bool → Answer
-heard_of (refused x) st good = answer.Refused x
-heard_of (holds fs) st good = answer.Now (heard_on (length fs) st good)
+heard_of (refused x) st good = Err x
+heard_of (holds fs) st good = Ok (heard_on (length fs) st good)
 
 -- ---- for the contracts of single steps: what comes behind so many frames of a reel, and where it lies
 

@@ -4,8 +4,8 @@ use Rattle.std.specs.Prelude.{◌≡◌, ℕ, ◌<◌, ◌≤◌, Bool, cond, fa
 use Rattle.book.specs.Book.{Read, opened_for}
 use Rattle.controller.specs.declared.State.{State}
 use Rattle.controller.specs.declared.State.TheVariants as state
-use Rattle.controller.specs.declared.Answer.{Answer}
-use Rattle.controller.specs.declared.Answer.TheVariants as answer
+use Rattle.controller.specs.Controller.{Answer}
+use Rattle.std.specs.Prelude.{Err, Ok}
 use Rattle.controller.specs.declared.Turn.{Turn}
 use Rattle.controller.specs.declared.Turn.TheVariants as turn
 use Rattle.controller.specs.Controller.{heard_of, is_good, sending_of}
@@ -18,8 +18,8 @@ handed (turn.Refused x) bytes = []
 
 -- the state that a caller has behind an answer: a refusal keeps it
 abbrev pub kept : State → Answer → State
-kept st (answer.Now next) = next
-kept st (answer.Refused x) = st
+kept st (Ok next) = next
+kept st (Err x) = st
 
 pub record Run : Type 0 where
   pub sent : List (List ℕ)

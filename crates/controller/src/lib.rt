@@ -21,11 +21,7 @@ pub enum State {
 }
 
 // The state as it is now, or why the book is refused; then the state is what it was.
-#[derive(Clone, Copy)]
-pub enum Answer {
-    Now(State),
-    Refused(Refusal),
-}
+pub type Answer = Result<State, Refusal>;
 
 // What a step sends: so many bytes, 0 for the final empty read; nothing, where the work is over; or why the book is refused.
 #[derive(Clone, Copy)]
@@ -93,16 +89,11 @@ pub fn start(book: &[u8]) -> Answer
     ensures { result ≡ start_of (opened_for Read book.now) }
 {
     let mut reel = [0u8; book::LONGEST_REEL];
-    let told = book::replay(book, &mut reel);
-    match told {
-        Ok(n) => {
-            if n == 0 {
-                return Answer::Now(State::Done);
-            }
-            Answer::Now(State::Running(0))
-        }
-        Err(why) => Answer::Refused(why),
+    let n = book::replay(book, &mut reel)?;
+    if n == 0 {
+        return Ok(State::Done);
     }
+    Ok(State::Running(0))
 }
 
 // No bytes.
@@ -198,12 +189,7 @@ pub fn hear(state: State, book: &[u8], status: &[u8]) -> Answer
     ensures { result ≡ heard_of (opened_for Read book.now) state (is_good status.now) }
 {
     let mut reel = [0u8; book::LONGEST_REEL];
-    let told = book::replay(book, &mut reel);
-    match told {
-        Ok(n) => {
-            let good = goes_on(Status::from_slice(status).cmd());
-            Answer::Now(heard(state, &reel[0..n], good))
-        }
-        Err(why) => Answer::Refused(why),
-    }
+    let n = book::replay(book, &mut reel)?;
+    let good = goes_on(Status::from_slice(status).cmd());
+    Ok(heard(state, &reel[0..n], good))
 }

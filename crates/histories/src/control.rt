@@ -44,13 +44,10 @@ fn standing(outcome: u8, n: usize, lent: &mut [u8]) -> Answer {
 }
 
 fn told(said: controller::Answer, lent: &mut [u8]) -> Answer {
-    match said {
-        controller::Answer::Now(state) => match state {
-            State::Running(sent) => standing(0, sent, lent),
-            State::Done => standing(1, 0, lent),
-            State::Stopped(position) => standing(2, position, lent),
-        },
-        controller::Answer::Refused(why) => Err(why),
+    match said? {
+        State::Running(sent) => standing(0, sent, lent),
+        State::Done => standing(1, 0, lent),
+        State::Stopped(position) => standing(2, position, lent),
     }
 }
 

@@ -16,8 +16,8 @@ use Rattle.contents.specs.Contents.{Contents, holds, refused}
 use Rattle.book.specs.Book.{Read, opened_for}
 use Rattle.controller.specs.declared.State.{State}
 use Rattle.controller.specs.declared.State.TheVariants.{Done, Running, Stopped}
-use Rattle.controller.specs.declared.Answer.{Answer}
-use Rattle.controller.specs.declared.Answer.TheVariants.{Now, Refused}
+use Rattle.controller.specs.Controller.{Answer}
+use Rattle.std.specs.Prelude.{Err, Ok}
 use Rattle.controller.specs.declared.Turn.{Turn}
 use Rattle.controller.specs.declared.Turn.TheVariants as turn
 use Rattle.controller.specs.Controller.{heard_of, heard_on, is_good, is_over, sending_of, sends_of, start_of}
@@ -34,12 +34,12 @@ use Rattle.hoardbutton.proofs.Whole.{low_small}
 -- ---- what each struct has, field by field: nothing is cut
 
 abbrev pub StartSays : Answer → HbControl → Type 0
-StartSays (Now st) r = (r.refusal ≡ 0) × (r.place ≡ 0) × (r.state ≡ state_c st)
-StartSays (Refused x) r = (r.refusal ≡ number_of x) × (r.place ≡ 0) × (r.state ≡ record { outcome = 1; count = 0 })
+StartSays (Ok st) r = (r.refusal ≡ 0) × (r.place ≡ 0) × (r.state ≡ state_c st)
+StartSays (Err x) r = (r.refusal ≡ number_of x) × (r.place ≡ 0) × (r.state ≡ record { outcome = 1; count = 0 })
 
 abbrev pub HearSays : HbController → Answer → HbControl → Type 0
-HearSays c (Now st) r = (r.refusal ≡ 0) × (r.place ≡ 0)
-HearSays c (Refused x) r = (r.refusal ≡ number_of x) × (r.place ≡ 0) × (r.state ≡ c)
+HearSays c (Ok st) r = (r.refusal ≡ 0) × (r.place ≡ 0)
+HearSays c (Err x) r = (r.refusal ≡ number_of x) × (r.place ≡ 0) × (r.state ≡ c)
 
 abbrev pub SendSays : Turn → List ℕ → HbSending → Type 0
 SendSays (turn.Sends n) f r = (r.refusal ≡ 0) × (r.place ≡ 0) × (r.over ≡ 0) × (r.len ≡ n) × (r.bytes ≡ f)
@@ -53,17 +53,17 @@ own-place b x e = let z : place_of x ≡ 0 = (refused-numbers b x e).1 in omega 
 pub start-handed : (b : List ℕ) → StartSays (start_of (opened_for Read b)) (start_c (start_of (opened_for Read b)))
 start-handed b = by (start_of (opened_for Read b)) (λ x. (refused-own b x Done []).0)
   where
-    by : (a : Answer) → ((x : Refusal) → a ≡ Refused x → opened_for Read b ≡ refused x) → StartSays a (start_c a)
-    by (Now st) h = (refl, refl, refl)
-    by (Refused x) h = (refl, own-place b x (h x refl), refl)
+    by : (a : Answer) → ((x : Refusal) → a ≡ Err x → opened_for Read b ≡ refused x) → StartSays a (start_c a)
+    by (Ok st) h = (refl, refl, refl)
+    by (Err x) h = (refl, own-place b x (h x refl), refl)
 
 pub hear-handed : (b : List ℕ) (c : HbController) (s : List ℕ)
     → HearSays c (heard_of (opened_for Read b) (state_of c) (is_good s)) (hear_c c (heard_of (opened_for Read b) (state_of c) (is_good s)))
 hear-handed b c s = by (heard_of (opened_for Read b) (state_of c) (is_good s)) (λ x. (refused-own b x (state_of c) s).2)
   where
-    by : (a : Answer) → ((x : Refusal) → a ≡ Refused x → opened_for Read b ≡ refused x) → HearSays c a (hear_c c a)
-    by (Now st) h = (refl, refl)
-    by (Refused x) h = (refl, own-place b x (h x refl), refl)
+    by : (a : Answer) → ((x : Refusal) → a ≡ Err x → opened_for Read b ≡ refused x) → HearSays c a (hear_c c a)
+    by (Ok st) h = (refl, refl)
+    by (Err x) h = (refl, own-place b x (h x refl), refl)
 
 pub send-handed : (b : List ℕ) (st : State)
     → SendSays (sending_of (opened_for Read b) st).turn (sending_of (opened_for Read b) st).frame (sending_c (sending_of (opened_for Read b) st))
@@ -77,7 +77,7 @@ send-handed b st =
     by (turn.Refused x) f k h = (refl, own-place b x (h x refl), refl, refl, refl)
 
 pub outcomes : (state_c (Running 3) ≡ record { outcome = 0; count = 3 }) × (state_c Done ≡ record { outcome = 1; count = 0 })
-    × (state_c (Stopped 2) ≡ record { outcome = 2; count = 2 }) × ((start_c (Refused NotWellFormed)).state ≡ record { outcome = 1; count = 0 })
+    × (state_c (Stopped 2) ≡ record { outcome = 2; count = 2 }) × ((start_c (Err NotWellFormed)).state ≡ record { outcome = 1; count = 0 })
 outcomes = (refl, refl, refl, refl)
 
 -- ---- a state that C was given is the controller's
@@ -105,19 +105,19 @@ end-over b fs h c e =
     ap (λ (t : Bool). sending_c (sending_of (opened_for Read b) (cond t (Running c.count) Done))) e ∙ ap sending_c (done-sends b fs h)
 
 pub end_back : (c : HbController) → eqb c.outcome 0 ≡ false → (a : Answer) → (hear_c c a).state ≡ c
-end_back c e (Now st) = ap (λ (t : Bool). cond t (state_c st) c) e
-end_back c e (Refused x) = refl
+end_back c e (Ok st) = ap (λ (t : Bool). cond t (state_c st) c) e
+end_back c e (Err x) = refl
 
 -- ---- what else comes back as it was given
 
 abbrev pub running : ℕ → HbController
 running j = record { outcome = 0; count = j }
 
-pub refused-back : (c : HbController) (x : Refusal) → (hear_c c (Refused x)).state ≡ c
+pub refused-back : (c : HbController) (x : Refusal) → (hear_c c (Err x)).state ≡ c
 refused-back c x = refl
 
 over-back : (n j : ℕ) (good : Bool) → is_over n j ≡ true
-    → (hear_c (running j) (Now (heard_on n (Running j) good))).state ≡ running j
+    → (hear_c (running j) (Ok (heard_on n (Running j) good))).state ≡ running j
 over-back n j good e = sym (ap state_c (heard-over n good j e))
 
 -- more frames sent than the book has, and any in an empty one

@@ -35,8 +35,7 @@ use Rattle.sides.specs.Parts.{part_of}
 use Rattle.std.specs.Prelude.{Result, Ok, Err}
 use Rattle.bank_widths.specs.Lists.{found, found_in, judged}
 use Rattle.bank_widths.proofs.Laws.{accepts-all, found-accepted}
-use Rattle.locker_profile.specs.declared.Answer as locker
-use Rattle.locker_profile.specs.declared.Answer.TheVariants as profile
+use Rattle.locker_profile.specs.Profile as profile
 use Rattle.hoardbutton.specs.declared.answers.HbAnswer.{HbAnswer}
 use Rattle.hoardbutton.specs.Answers.{answer_c, done_c, refused_c}
 use Rattle.hoardbutton.specs.Profiles.{profile_c}
@@ -74,7 +73,7 @@ banks-told = answer-told
 pub text-told : (d : Result ℕ Refusal) → Told (answer_c d)
 text-told = answer-told
 
-pub profile-told : (a : locker.Answer) → Told (profile_c a)
+pub profile-told : (a : profile.Answer) → Told (profile_c a)
 profile-told profile.Yes = done-told 0
 profile-told (profile.Broken n) = done-told n
 profile-told (profile.Refused x) = refused-told x

@@ -28,8 +28,7 @@ use Rattle.sides.proofs.Places.{side-place}
 use Rattle.std.specs.Prelude.{Err}
 use Rattle.bank_widths.specs.Lists.{found, judged}
 use Rattle.bank_widths.proofs.Laws.{found-place, judged-place}
-use Rattle.locker_profile.specs.declared.Answer as locker
-use Rattle.locker_profile.specs.declared.Answer.TheVariants as profile
+use Rattle.locker_profile.specs.Profile as profile
 use Rattle.locker_profile.specs.Profile.{answer_for}
 use Rattle.locker_profile.proofs.Bounds.{broken-bounds, profiled-place}
 use Rattle.cmd_lora.specs.declared.LoraBw.{LoraBw}
@@ -191,7 +190,7 @@ profile-whole b x e = low_small (place_of x) (omega (arith, profiled-place b x e
 pub profile-yes : (b : List ℕ) → (profile_c (answer_for b)).refusal ≡ 0 → (profile_c (answer_for b)).value ≡ 0 → answer_for b ≡ profile.Yes
 profile-yes b = by (answer_for b) refl
   where
-    by : (a : locker.Answer) → answer_for b ≡ a → (profile_c a).refusal ≡ 0 → (profile_c a).value ≡ 0 → a ≡ profile.Yes
+    by : (a : profile.Answer) → answer_for b ≡ a → (profile_c a).refusal ≡ 0 → (profile_c a).value ≡ 0 → a ≡ profile.Yes
     by profile.Yes e z w = refl
     by (profile.Broken n) e z w = absurd (omega (arith, (broken-bounds (opened_for Read b) n e).0))
     by (profile.Refused x) e z w = absurd (omega (arith, (number-bounds x).0))
@@ -200,7 +199,7 @@ profile-yes b = by (answer_for b) refl
 pub profile-rule : (b : List ℕ) → (profile_c (answer_for b)).value ≤ 7
 profile-rule b = by (answer_for b) refl
   where
-    by : (a : locker.Answer) → answer_for b ≡ a → (profile_c a).value ≤ 7
+    by : (a : profile.Answer) → answer_for b ≡ a → (profile_c a).value ≤ 7
     by profile.Yes e = omega arith
     by (profile.Broken n) e = (broken-bounds (opened_for Read b) n e).1
     by (profile.Refused x) e = omega arith

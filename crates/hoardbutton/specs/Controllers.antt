@@ -3,8 +3,8 @@
 use Rattle.std.specs.Prelude.{ℕ, cond, eqb}
 use Rattle.controller.specs.declared.State.{State}
 use Rattle.controller.specs.declared.State.TheVariants.{Done, Running, Stopped}
-use Rattle.controller.specs.declared.Answer.{Answer}
-use Rattle.controller.specs.declared.Answer.TheVariants.{Now, Refused}
+use Rattle.controller.specs.Controller.{Answer}
+use Rattle.std.specs.Prelude.{Err, Ok}
 use Rattle.controller.specs.declared.Sending.{Sending}
 use Rattle.controller.specs.declared.Turn.{Turn}
 use Rattle.controller.specs.declared.Turn.TheVariants as turn
@@ -33,12 +33,12 @@ behind_c c st = cond (eqb c.outcome 0) (state_c st) c
 -- ---- an answer: a refusal keeps the state given, and a refused start gives an end
 
 abbrev pub start_c : Answer → HbControl
-start_c (Now st) = record { refusal = 0; place = 0; state = state_c st }
-start_c (Refused x) = record { refusal = (refused_c x).refusal; place = (refused_c x).place; state = state_c Done }
+start_c (Ok st) = record { refusal = 0; place = 0; state = state_c st }
+start_c (Err x) = record { refusal = (refused_c x).refusal; place = (refused_c x).place; state = state_c Done }
 
 abbrev pub hear_c : HbController → Answer → HbControl
-hear_c c (Now st) = record { refusal = 0; place = 0; state = behind_c c st }
-hear_c c (Refused x) = record { refusal = (refused_c x).refusal; place = (refused_c x).place; state = c }
+hear_c c (Ok st) = record { refusal = 0; place = 0; state = behind_c c st }
+hear_c c (Err x) = record { refusal = (refused_c x).refusal; place = (refused_c x).place; state = c }
 
 -- ---- what is sent: over is 1 where nothing is left to do; no bytes, and not over, is the final read
 

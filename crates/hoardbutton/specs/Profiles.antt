@@ -1,7 +1,6 @@
 -- The answer of the locker profile as C has it. That value 0 without a refusal is a yes, and nothing else is, proofs/Whole.antt says.
 -- Assumes nothing.
-use Rattle.locker_profile.specs.declared.Answer.{Answer}
-use Rattle.locker_profile.specs.declared.Answer.TheVariants.{Broken, Refused, Yes}
+use Rattle.locker_profile.specs.Profile.{Answer, Broken, Refused, Yes}
 use Rattle.hoardbutton.specs.declared.answers.HbAnswer.{HbAnswer}
 use Rattle.hoardbutton.specs.Answers.{done_c, refused_c}
 

@@ -76,12 +76,12 @@ fn started(a: Answer) -> HbControl
     ensures { result ≡ start_c a }
 {
     match a {
-        Answer::Now(state) => HbControl {
+        Ok(state) => HbControl {
             refusal: 0,
             place: 0,
             state: state_told(state),
         },
-        Answer::Refused(why) => {
+        Err(why) => {
             let said = refused(why);
             HbControl {
                 refusal: said.refusal,
@@ -145,12 +145,12 @@ fn heard(given: HbController, a: Answer) -> HbControl
     ensures { result ≡ hear_c given a }
 {
     match a {
-        Answer::Now(state) => HbControl {
+        Ok(state) => HbControl {
             refusal: 0,
             place: 0,
             state: behind(given, state),
         },
-        Answer::Refused(why) => {
+        Err(why) => {
             let said = refused(why);
             HbControl {
                 refusal: said.refusal,

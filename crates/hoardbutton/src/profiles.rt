@@ -10,9 +10,9 @@ fn answered(a: Answer) -> HbAnswer
     ensures { result ≡ profile_c a }
 {
     match a {
-        Answer::Yes => done(0),
-        Answer::Broken(rule) => done(rule as u64),
-        Answer::Refused(why) => refused(why),
+        Ok(None) => done(0),
+        Ok(Some(rule)) => done(rule as u64),
+        Err(why) => refused(why),
     }
 }
 

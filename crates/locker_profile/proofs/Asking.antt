@@ -28,8 +28,7 @@ use Rattle.book.specs.Book.{Read, call_for, layout_in, on_contents, opened_for, 
 use Rattle.book.specs.History.{Ask, after}
 use Rattle.book.proofs.Calls.{done_refused}
 use Rattle.book.proofs.Laws.{frame-slot}
-use Rattle.locker_profile.specs.declared.Answer.TheVariants.{Refused}
-use Rattle.locker_profile.specs.Profile.{answered, arguments_of, frame_for, lora_from, lora_of, profile_of, profiled}
+use Rattle.locker_profile.specs.Profile.{Refused, answered, arguments_of, frame_for, lora_from, lora_of, profile_of, profiled}
 use Rattle.locker_profile.specs.Steps.{asked_of, given, handed, missing_for, withheld}
 use Rattle.locker_profile.proofs.Bounds.{opened_for-own, own-not}
 

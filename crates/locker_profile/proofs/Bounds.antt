@@ -14,11 +14,9 @@ use Rattle.contents.specs.Contents.{Contents, holds, refused}
 use Rattle.contents.proofs.Places.{judge-own, judge-place}
 use Rattle.book.specs.Book.{Read, layout_in, opened_for}
 use Rattle.book.proofs.Places.{opened_for-says}
-use Rattle.locker_profile.specs.declared.Answer.{Answer}
-use Rattle.locker_profile.specs.declared.Answer.TheVariants.{Broken, Refused, Yes}
+use Rattle.locker_profile.specs.Profile.{Answer, Broken, Refused, Yes, answer_for, answered, holds_all, judged, lora_in, profile_of, profiled}
 use Rattle.locker_profile.specs.declared.Lora.{Lora}
 use Rattle.locker_profile.specs.Rules.{first_broken, rules}
-use Rattle.locker_profile.specs.Profile.{answer_for, answered, holds_all, judged, lora_in, profile_of, profiled}
 use Rattle.locker_profile.proofs.Rules.{place-most}
 
 -- what holds of each rule from 1 to 7, of 22 and of the book's own refusals holds of whatever is answered

@@ -14,10 +14,8 @@ use Rattle.decoder.specs.Decoding.{answered, decode, judged, known, lacking, sou
 use Rattle.settings.specs.Settings.{slot_for, slot_of}
 use Rattle.contents.specs.Frames.{held}
 use Rattle.book.specs.Plain.{frame_of}
-use Rattle.locker_profile.specs.declared.Answer.{Answer}
-use Rattle.locker_profile.specs.declared.Answer.TheVariants.{Broken, Refused, Yes}
+use Rattle.locker_profile.specs.Profile.{Answer, Broken, Refused, Yes, lora_of, profile_of}
 use Rattle.locker_profile.specs.Rules.{crc, due_for, first_broken, header, is_long, optimisation, rate, spreading_factor, syncword, width, width_in}
-use Rattle.locker_profile.specs.Profile.{lora_of, profile_of}
 
 -- frames of kind 1, by spreading factor with width, and by rate with optimisation; of kind 2, by header, CRC and inversion; and of kind 4
 abbrev modulation : ℕ → ℕ → List ℕ

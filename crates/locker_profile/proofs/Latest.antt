@@ -27,8 +27,7 @@ use Rattle.book.specs.History.{Ask, Call, Clear, Make, Put, Remove, Replay, turn
 use Rattle.book.proofs.Kept.{Kept, tell-frames}
 use Rattle.book.proofs.Laws.{frame-slot, placed-newest, placed-others, without_gone, without-others}
 use Rattle.book.proofs.Placed.{placed-gone}
-use Rattle.locker_profile.specs.declared.Answer.TheVariants.{Refused}
-use Rattle.locker_profile.specs.Profile.{answered, frame_for, lora_in, profile_of}
+use Rattle.locker_profile.specs.Profile.{Refused, answered, frame_for, lora_in, profile_of}
 use Rattle.locker_profile.specs.Latest.{Latest, answered_by, heard_to, is_about, latest, none}
 use Rattle.locker_profile.proofs.Asking.{slots-low}
 

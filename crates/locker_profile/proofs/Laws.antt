@@ -30,10 +30,8 @@ use Rattle.table.specs.Table.{settings}
 use Rattle.std.specs.Prelude.{Err, Ok, Result}
 use Rattle.book.specs.Book.{Read, opened_for}
 use Rattle.book.specs.History.{Ask, Heard, after}
-use Rattle.locker_profile.specs.declared.Answer.{Answer}
-use Rattle.locker_profile.specs.declared.Answer.TheVariants.{Broken, Refused, Yes}
+use Rattle.locker_profile.specs.Profile.{Answer, Broken, Refused, Yes, answer_for, answered, frame_for, holds_all, judged, lora_from, lora_in, lora_of, profile_of, profiled}
 use Rattle.locker_profile.specs.Rules.{first_broken, rules}
-use Rattle.locker_profile.specs.Profile.{answer_for, answered, frame_for, holds_all, judged, lora_from, lora_in, lora_of, profile_of, profiled}
 use Rattle.locker_profile.proofs.Rules.{AllKept, Failing, fails-place, kept-none, none_kept, place-fails}
 use Rattle.locker_profile.specs.Steps.{asked_of, given, missing_for, withheld}
 use Rattle.locker_profile.proofs.Bounds.{opened_for-own, own-not}

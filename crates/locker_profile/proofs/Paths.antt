@@ -10,8 +10,7 @@ use lib.Dec.{leb, ltb}
 use lib.Pow.{pow_mono}
 use Rattle.cmd_lora.specs.Methods.{over}
 use Rattle.locker_profile.specs.declared.Lora.{Lora}
-use Rattle.locker_profile.specs.declared.Answer.TheVariants.{Broken}
-use Rattle.locker_profile.specs.Profile.{judged}
+use Rattle.locker_profile.specs.Profile.{Broken, judged}
 use Rattle.locker_profile.specs.Rules.{spreading_factor, width, width_in, width_of}
 use Rattle.locker_profile.proofs.Rules.{spreading-factor-is, width_is}
 

@@ -34,9 +34,8 @@ use Rattle.sides.proofs.Parts.{chosen-out, frame-chosen}
 use Rattle.sides.proofs.Kept.{event-kept}
 use Rattle.sides.proofs.History.{shared-history}
 use Rattle.sides.proofs.Fresh.{shared-opens}
-use Rattle.locker_profile.specs.declared.Answer.TheVariants.{Yes}
+use Rattle.locker_profile.specs.Profile.{Yes, answer_for, frame_for, lora_of, profiled}
 use Rattle.locker_profile.specs.Rules.{rules}
-use Rattle.locker_profile.specs.Profile.{answer_for, frame_for, lora_of, profiled}
 use Rattle.locker_profile.specs.Latest.{Latest, answered_by, heard_to, latest, latest_after, none}
 use Rattle.locker_profile.specs.Shared.{IsPut, by_side, by_whole, event_to, is_event_about, is_side_about, latest_of, side_to, wholes}
 use Rattle.locker_profile.proofs.Rules.{AllKept, kept-none}

@@ -7,8 +7,7 @@ use Rattle.settings.specs.Settings.{slot_for, slot_of}
 use Rattle.forms.specs.Forms.{other}
 use Rattle.book.specs.Plain.{Answer}
 use Rattle.book.specs.History.{Ask, Call, Clear, Heard, Make, Put, Remove, Replay}
-use Rattle.locker_profile.specs.declared.Answer as profile
-use Rattle.locker_profile.specs.declared.Answer.TheVariants as told
+use Rattle.locker_profile.specs.Profile as profile
 use Rattle.locker_profile.specs.Profile.{answered, lora_of}
 
 -- a setting's latest accepted frame; none where it was never put, or went since
@@ -49,6 +48,6 @@ latest_after s (c ∷ cs) (h ∷ hs) x = latest_after s cs hs (heard_to s c h.an
 -- the profile by the latest frames of kinds 1, 2 and 4
 abbrev pub answered_by : Latest → Latest → Latest → profile.Answer
 answered_by (latest f) (latest g) (latest h) = answered (lora_of f g h)
-answered_by none y z = told.Refused SettingMissing
-answered_by (latest f) none z = told.Refused SettingMissing
-answered_by (latest f) (latest g) none = told.Refused SettingMissing
+answered_by none y z = profile.Refused SettingMissing
+answered_by (latest f) none z = profile.Refused SettingMissing
+answered_by (latest f) (latest g) none = profile.Refused SettingMissing

@@ -1,6 +1,7 @@
 -- The locker profile of a book (REFERENCE, "Locker profile"): whether it keeps the rules, by the frames of kinds 1, 2 and 4 that it holds.
 -- Assumes nothing.
-use Rattle.std.specs.Prelude.{ℕ, suc, zero, Bool, cond, ◌&&◌, List, [], get_or}
+use Rattle.std.specs.Prelude.{ℕ, suc, zero, Bool, cond, ◌&&◌, List, [], get_or, Option, None, Some, Result, Ok, Err}
+use Rattle.refusal.specs.declared.Refusal.{Refusal}
 use Rattle.refusal.specs.declared.Refusal.TheVariants.{SettingMissing}
 use Rattle.decoder.specs.Decoding.{Reading, decode, reading, refuses}
 use Rattle.settings.specs.Settings.{slot_for}
@@ -8,8 +9,6 @@ use Rattle.contents.specs.Frames.{held}
 use Rattle.contents.specs.Contents.{Contents, holds, refused}
 use Rattle.book.specs.Plain.{frame_of}
 use Rattle.book.specs.Book.{Read, opened_for}
-use Rattle.locker_profile.specs.declared.Answer.{Answer}
-use Rattle.locker_profile.specs.declared.Answer.TheVariants.{Broken, Refused, Yes}
 use Rattle.locker_profile.specs.declared.Lora.{Lora}
 use Rattle.locker_profile.specs.Rules.{first_broken, rules}
 
@@ -47,6 +46,19 @@ abbrev pub lora_in : List (List ℕ) → Lora
 lora_in fs = lora_of (frame_for 1 fs) (frame_for 2 fs) (frame_for 4 fs)
 
 -- ---- the answer
+
+-- all rules are kept; or the first broken one, counted from 1; or why the book cannot be judged
+abbrev pub Answer : Type 0
+Answer = Result (Option ℕ) Refusal
+
+pattern abbrev pub Yes : Answer
+Yes = Ok None
+
+pattern abbrev pub Broken : ℕ → Answer
+Broken n = Ok (Some n)
+
+pattern abbrev pub Refused : Refusal → Answer
+Refused x = Err x
 
 -- by the place of the first broken rule: yes where there is none
 abbrev pub judged : ℕ → Answer

@@ -9,10 +9,7 @@ use Rattle.decoder.specs.Decoding.{Reading, decode, reading, refuses}
 use Rattle.settings.specs.Settings.{slot_for}
 use Rattle.contents.specs.Frames.{held}
 use Rattle.contents.specs.Contents.{Contents, holds, refused}
-use Rattle.locker_profile.specs.declared.Lora.{Lora}
-use Rattle.locker_profile.specs.declared.Answer.{Answer}
-use Rattle.locker_profile.specs.declared.Answer.TheVariants.{Refused}
-use Rattle.locker_profile.specs.Profile.{answered, frame_for}
+use Rattle.locker_profile.specs.Profile.{frame_for}
 
 -- that a kind is not held is a missing setting here; the book's own refusals stay
 abbrev pub missing_for : Refusal → Refusal
@@ -35,8 +32,3 @@ given r = Ok (handed r)
 abbrev pub asked_of : ℕ → Contents → Result (List ℕ) Refusal
 asked_of k (refused x) = withheld x
 asked_of k (holds fs) = cond (held (slot_for k) fs) (given (decode (frame_for k fs))) (withheld SettingMissing)
-
--- the answer, by what the rules look at
-abbrev pub answer_from : Result Lora Refusal → Answer
-answer_from (Ok l) = answered l
-answer_from (Err x) = Refused x

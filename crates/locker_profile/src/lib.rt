@@ -10,18 +10,13 @@ ghost use Rattle.cmd_lora.specs.Methods.{over};
 ghost use Rattle.book.specs.Book.{opened_for, Read};
 ghost use Rattle.locker_profile.specs.Rules.{due_for, first_broken, is_long, rate, rules, spreading_factor, width, width_of};
 ghost use Rattle.locker_profile.specs.Profile.{answered, answer_for, lora_from};
-ghost use Rattle.locker_profile.specs.Steps.{answer_from, asked_of, handed, missing_for};
+ghost use Rattle.locker_profile.specs.Steps.{asked_of, handed, missing_for};
 
 use cmd_lora::{HeaderType, Ldro, LoraBw, LoraCr, Sf};
 use refusal::Refusal;
 
-// All rules are kept; or the first broken one, counted from 1; or why the book cannot be judged.
-#[derive(Clone, Copy)]
-pub enum Answer {
-    Yes,
-    Broken(usize),
-    Refused(Refusal),
-}
+// None where all rules are kept, and else the first broken one, counted from 1; or why the book cannot be judged.
+pub type Answer = Result<Option<usize>, Refusal>;
 
 // The arguments that the rules look at, as numbers: four of kind 1, two of kind 2 and that of kind 4.
 #[derive(Clone, Copy)]
@@ -183,29 +178,19 @@ fn judge(lora: Lora) -> Answer
 {
     let n = first_broken(lora);
     if n == 0 {
-        return Answer::Yes;
+        return Ok(None);
     }
-    Answer::Broken(n)
+    Ok(Some(n))
 }
 
 // ---- the answer
-
-// What the rules look at. A book is refused as an ask of it would be, and then where it lacks kind 1, 2 or 4.
-fn lora_in(book: &[u8]) -> Result<Lora, Refusal>
-    ensures { answer_from result ≡ answer_for book.now }
-{
-    let modulation = asked(book, 1)?;
-    let packet = asked(book, 2)?;
-    let sync = asked(book, 4)?;
-    Ok(lora_of(modulation, packet, sync))
-}
 
 // Whether a book keeps the rules. It is refused as an ask of it would be, and then where it lacks kind 1, 2 or 4.
 pub fn check(book: &[u8]) -> Answer
     ensures { result ≡ answer_for book.now }
 {
-    match lora_in(book) {
-        Ok(lora) => judge(lora),
-        Err(why) => Answer::Refused(why),
-    }
+    let modulation = asked(book, 1)?;
+    let packet = asked(book, 2)?;
+    let sync = asked(book, 4)?;
+    judge(lora_of(modulation, packet, sync))
 }

@@ -11,8 +11,7 @@ use Rattle.texts.specs.Words.{line, spaced}
 use Rattle.refusal.specs.declared.Refusal.{Refusal}
 use Rattle.refusal.specs.Numbers.{number_of, place_of}
 use Rattle.refusal.proofs.Numbers.{number-bounds, refusals-same}
-use Rattle.locker_profile.specs.declared.Answer.{Answer}
-use Rattle.locker_profile.specs.declared.Answer.TheVariants.{Broken, Refused, Yes}
+use Rattle.locker_profile.specs.Profile.{Answer, Broken, Refused, Yes}
 use Rattle.profile_text.specs.Text.{answer_text}
 
 -- what a book can be answered: a rule from 1 to 7, or a refusal that has no place

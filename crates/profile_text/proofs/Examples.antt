@@ -6,8 +6,7 @@ use Prim.Native.String.{String}
 use Rattle.reading.specs.Decimal.{decimal, digits}
 use Rattle.texts.specs.Words.{word, line, spaced}
 use Rattle.refusal.specs.declared.Refusal.TheVariants.{BothForms, BufferSize, NotWellFormed, SettingMissing}
-use Rattle.locker_profile.specs.declared.Answer.{Answer}
-use Rattle.locker_profile.specs.declared.Answer.TheVariants.{Broken, Refused, Yes}
+use Rattle.locker_profile.specs.Profile.{Answer, Broken, Refused, Yes}
 use Rattle.profile_text.specs.Text.{answer_text, rule_word}
 
 -- a case: an answer, and what is printed

@@ -8,9 +8,7 @@ use native.Mathlib.Omega.{arith}
 use lib.ListN.{length}
 use Rattle.texts.specs.Words.{line, spaced}
 use Rattle.book.specs.Book.{Read, opened_for}
-use Rattle.locker_profile.specs.declared.Answer.{Answer}
-use Rattle.locker_profile.specs.declared.Answer.TheVariants.{Broken, Refused, Yes}
-use Rattle.locker_profile.specs.Profile.{answer_for}
+use Rattle.locker_profile.specs.Profile.{Answer, Broken, Refused, Yes, answer_for}
 use Rattle.locker_profile.proofs.Bounds.{broken-bounds, profiled-place}
 use Rattle.profile_text.specs.Text.{answer_text}
 use Rattle.profile_text.proofs.Apart.{IsGiven, texts-apart}

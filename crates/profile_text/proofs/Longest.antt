@@ -11,8 +11,7 @@ use Rattle.texts.proofs.Longest.{decimal-most, spaced-length, spaced-none}
 use Rattle.refusal.specs.declared.Refusal.{Refusal}
 use Rattle.refusal.specs.Numbers.{number_of}
 use Rattle.refusal.proofs.Numbers.{number-bounds}
-use Rattle.locker_profile.specs.declared.Answer.{Answer}
-use Rattle.locker_profile.specs.declared.Answer.TheVariants.{Broken, Refused, Yes}
+use Rattle.locker_profile.specs.Profile.{Answer, Broken, Refused, Yes}
 use Rattle.profile_text.specs.Text.{answer_text, longest, rule_word, rule_words}
 
 abbrev longest_of : List (List ℕ) → ℕ

@@ -10,7 +10,7 @@ use Rattle.texts.specs.Written.{filled}
 use Rattle.texts.proofs.Forms.{filled-then}
 use Rattle.refusal.specs.declared.Refusal.{Refusal}
 use Rattle.refusal.specs.Numbers.{number_of}
-use Rattle.locker_profile.specs.declared.Answer.TheVariants.{Broken, Refused, Yes}
+use Rattle.locker_profile.specs.Profile.{Broken, Refused, Yes}
 use Rattle.profile_text.specs.Text.{answer_text, rule_word, rule_words}
 
 past : {n : ℕ} (k : ℕ) → k ≤ n → (n ≡ k → ⊥) → suc k ≤ n

@@ -4,8 +4,7 @@ use Rattle.std.specs.Prelude.{ℕ, List, [], ◌∷◌, get_or}
 use Rattle.reading.specs.Decimal.{decimal}
 use Rattle.texts.specs.Words.{word, line}
 use Rattle.refusal.specs.Numbers.{number_of}
-use Rattle.locker_profile.specs.declared.Answer.{Answer}
-use Rattle.locker_profile.specs.declared.Answer.TheVariants.{Broken, Refused, Yes}
+use Rattle.locker_profile.specs.Profile.{Answer, Broken, Refused, Yes}
 
 -- no answer is longer, as proofs/Longest.antt shows
 abbrev pub longest : ℕ

@@ -38,14 +38,14 @@ pub fn answer(answer: Answer, out: &mut [u8]) -> usize
         return 0;
     }
     match answer {
-        Answer::Yes => put_text(out, 0, b"yes\n"),
-        Answer::Broken(rule) => {
+        Ok(None) => put_text(out, 0, b"yes\n"),
+        Ok(Some(rule)) => {
             let numbers = [rule as u64];
             let a = put_form(out, 0, b"rule 0 ", &numbers);
             let b = put_rule_word(out, a, rule);
             put_byte(out, b, b'\n')
         }
-        Answer::Refused(why) => {
+        Err(why) => {
             let numbers = [why.number() as u64];
             put_form(out, 0, b"refused 0\n", &numbers)
         }

@@ -1,3 +1,4 @@
+use borrow.Author.Rules.{rules}
 use native.Mathlib.Omega.{arith}
 use Rattle.locker_profile.specs.Rules.{rate}
 use Rattle.locker_profile.proofs.Paths.{below, beside}

@@ -1,4 +1,5 @@
 use mathlib.Core.Path.{sym, ◌∙◌}
+use borrow.Author.Rules.{rules}
 use borrow.Author.Tests.{eq-eqb, ne_eqb}
 use Rattle.locker_profile.specs.Rules.{width}
 use Rattle.locker_profile.proofs.breaks_width.Goals as goal

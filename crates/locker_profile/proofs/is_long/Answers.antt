@@ -1,8 +1,9 @@
 use Prim.Native.Nat.{◌*◌, ◌^◌}
+use borrow.Author.Rules.{rules}
 use borrow.Author.Tests.{le-leb, lt-leb}
 use native.Mathlib.Omega.{arith}
 use Rattle.locker_profile.specs.Rules.{is_long}
-use Rattle.locker_profile.proofs.Paths.{chips-are}
+use Rattle.locker_profile.proofs.Paths.{chips-are, chips-most}
 use Rattle.locker_profile.proofs.is_long.Goals as goal
 
 pub returns-then-sf-hz : goal.returns-then-sf-hz
