@@ -12,12 +12,11 @@ use lib.Dec.{eqb, ltb}
 use lib.ListN.{drop, get_or, length, take}
 use Rattle.bank_list.specs.declared.Fault.{Fault}
 use Rattle.bank_list.specs.declared.Fault.TheVariants.{CodePast, NotABank}
-use Rattle.bank_list.specs.declared.Line.{Line}
-use Rattle.bank_list.specs.declared.Line.TheVariants.{Skipped, Need, Proposal, Wrong}
-use Rattle.std.specs.Prelude.{Option, Some, None}
+use Rattle.bank_list.specs.declared.Bank.{Bank}
+use Rattle.std.specs.Prelude.{Option, Some, None, Result, Ok, Err}
 use Rattle.bank_list.specs.Lines.{body_of, is_number, is_digit, is_separator, leading_of, lines_of, number_of, numbered}
-use Rattle.bank_list.specs.Lines.{bank_of, behind_need, line_of, need_said, proposal_said, skips}
-use Rattle.bank_list.specs.Banks.{Paired, Parsed, after_line, banks, faulty, parsed, parsed_from}
+use Rattle.bank_list.specs.Lines.{bank_of, behind_need, line_of, need_said, not_skipped, proposal_said, skips}
+use Rattle.bank_list.specs.Banks.{Paired, Parsed, after_line, banks, faulty, parsed, parsed_from, with_bank}
 use Rattle.bank_list.proofs.States.{apart, paired-after}
 use Rattle.bank_list.proofs.Turns.{faulty-stays}
 
@@ -56,17 +55,24 @@ abbrev NumberBounded : Option ℕ → Type 0
 NumberBounded (Some n) = n < 2 ^ 64
 NumberBounded None = Unit {0}
 
-abbrev LineBounded : Line → Type 0
-LineBounded Skipped = Unit {0}
-LineBounded (Need n) = n < 2 ^ 64
-LineBounded (Proposal n c) = (n < 2 ^ 64) × (c < 256)
-LineBounded (Wrong f) = Unit {0}
+abbrev CodeBounded : Option ℕ → Type 0
+CodeBounded (Some c) = c < 256
+CodeBounded None = Unit {0}
+
+abbrev BankBounded : Result Bank Fault → Type 0
+BankBounded (Ok b) = (b.need < 2 ^ 64) × CodeBounded b.code
+BankBounded (Err f) = Unit {0}
+
+abbrev LineBounded : Result (Option Bank) Fault → Type 0
+LineBounded (Ok (Some b)) = BankBounded (Ok b)
+LineBounded (Ok None) = Unit {0}
+LineBounded (Err f) = Unit {0}
 
 abbrev ParsedBounded : Parsed → Type 0
 ParsedBounded (banks ns cs) = Bounded ns cs
 ParsedBounded (faulty k f) = Unit {0}
 
-picked : (t : Bool) (a b : Line) → LineBounded a → LineBounded b → LineBounded (cond t a b)
+picked : (t : Bool) (a b : Result Bank Fault) → BankBounded a → BankBounded b → BankBounded (cond t a b)
 picked true a b x y = x
 picked false a b x y = y
 
@@ -77,47 +83,58 @@ numbered-bounded n = go (ltb n (2 ^ 64)) refl
     go true e = ltb-true n (2 ^ 64) e
     go false e = tt
 
-need-bounded : (n : Option ℕ) → NumberBounded n → LineBounded (need_said n)
-need-bounded (Some n) h = h
+need-bounded : (n : Option ℕ) → NumberBounded n → BankBounded (need_said n)
+need-bounded (Some n) h = (h, tt)
 need-bounded None h = tt
 
-proposal-bounded : (n c : Option ℕ) → NumberBounded n → LineBounded (proposal_said n c)
+proposal-bounded : (n c : Option ℕ) → NumberBounded n → BankBounded (proposal_said n c)
 proposal-bounded None c h = tt
 proposal-bounded (Some n) None h = tt
 proposal-bounded (Some n) (Some c) h = go (ltb c 256) refl
   where
-    go : (t : Bool) → ltb c 256 ≡ t → LineBounded (cond t (Proposal n c) (Wrong CodePast))
+    go : (t : Bool) → ltb c 256 ≡ t → BankBounded (cond t (Ok (record { need = n; code = Some c })) (Err CodePast))
     go true e = (h, ltb-true c 256 e)
     go false e = tt
 
-behind-bounded : (n : Option ℕ) (s : List ℕ) → NumberBounded n → LineBounded (behind_need n s)
+behind-bounded : (n : Option ℕ) (s : List ℕ) → NumberBounded n → BankBounded (behind_need n s)
 behind-bounded n [] h = need-bounded n h
 behind-bounded n (b ∷ s) h =
-    picked (is_separator b && is_number s) (proposal_said n (numbered (number_of s))) (Wrong NotABank) (proposal-bounded n (numbered (number_of s)) h) tt
+    picked (is_separator b && is_number s) (proposal_said n (numbered (number_of s))) (Err NotABank) (proposal-bounded n (numbered (number_of s)) h) tt
 
-line-bounded : (l : List ℕ) → LineBounded (line_of l)
-unfolding line_of bank_of
-line-bounded l =
+bank-bounded : (l : List ℕ) → BankBounded (bank_of l)
+unfolding bank_of
+bank-bounded l =
     let d : ℕ = leading_of is_digit l in
     let n : Option ℕ = numbered (number_of (take d l)) in
-    picked (skips l) Skipped (bank_of l) tt
-    (picked (eqb d 0) (Wrong NotABank) (behind_need n (drop d l)) tt (behind-bounded n (drop d l) (numbered-bounded (number_of (take d l)))))
+    picked (eqb d 0) (Err NotABank) (behind_need n (drop d l)) tt (behind-bounded n (drop d l) (numbered-bounded (number_of (take d l))))
 
-after-bounded : (p : Parsed) (k : ℕ) (s : Line) → ParsedBounded p → LineBounded s → ParsedBounded (after_line p k s)
+line-bounded : (l : List ℕ) → LineBounded (line_of l)
+unfolding line_of
+line-bounded l = go (skips l) (bank_of l) (bank-bounded l)
+  where
+    go : (t : Bool) (r : Result Bank Fault) → BankBounded r → LineBounded (cond t (Ok None) (not_skipped r))
+    go true r h = tt
+    go false (Ok b) h = h
+    go false (Err f) h = tt
+
+with-bounded : (ns cs : List ℕ) (k n : ℕ) (c : Option ℕ) → Bounded ns cs → n < 2 ^ 64 → CodeBounded c → ParsedBounded (with_bank ns cs k n c)
+with-bounded ns [] k n None h b a = record { needs = below_more (2 ^ 64) ns n (omega arith) h.needs b; codes = h.codes }
+with-bounded ns (d ∷ cs) k n None h b a = tt
+with-bounded [] cs k n (Some c) h b a = record {
+  needs = below_more (2 ^ 64) [] n (omega arith) h.needs b;
+  codes = below_more 256 [] c (omega arith) (λ i. omega arith) a;
+}
+with-bounded (m ∷ ns) [] k n (Some c) h b a = tt
+with-bounded (m ∷ ns) (d ∷ cs) k n (Some c) h b a = record {
+  needs = below_more (2 ^ 64) (m ∷ ns) n (omega arith) h.needs b;
+  codes = below_more 256 (d ∷ cs) c (omega arith) h.codes a;
+}
+
+after-bounded : (p : Parsed) (k : ℕ) (s : Result (Option Bank) Fault) → ParsedBounded p → LineBounded s → ParsedBounded (after_line p k s)
 after-bounded (faulty j f) k s h b = tt
-after-bounded (banks ns cs) k Skipped h b = h
-after-bounded (banks ns []) k (Need n) h b = record { needs = below_more (2 ^ 64) ns n (omega arith) h.needs b; codes = h.codes }
-after-bounded (banks ns (c ∷ cs)) k (Need n) h b = tt
-after-bounded (banks [] cs) k (Proposal n c) h b = record {
-  needs = below_more (2 ^ 64) [] n (omega arith) h.needs b.0;
-  codes = below_more 256 [] c (omega arith) (λ i. omega arith) b.1;
-}
-after-bounded (banks (m ∷ ns) []) k (Proposal n c) h b = tt
-after-bounded (banks (m ∷ ns) (d ∷ cs)) k (Proposal n c) h b = record {
-  needs = below_more (2 ^ 64) (m ∷ ns) n (omega arith) h.needs b.0;
-  codes = below_more 256 (d ∷ cs) c (omega arith) h.codes b.1;
-}
-after-bounded (banks ns cs) k (Wrong f) h b = tt
+after-bounded (banks ns cs) k (Ok None) h b = h
+after-bounded (banks ns cs) k (Ok (Some x)) h b = with-bounded ns cs k x.need x.code h b.0 b.1
+after-bounded (banks ns cs) k (Err f) h b = tt
 
 bounded-from : (p : Parsed) (k : ℕ) (ls : List (List ℕ)) → ParsedBounded p → ParsedBounded (parsed_from p k ls)
 unfolding parsed_from
@@ -166,14 +183,17 @@ wrong-fold p k ls j f w =
     n = k + length w.before
 
 -- a line that is wrong is told by its own number
-own-place : (ns cs : List ℕ) (k : ℕ) (s : Line) (j : ℕ) (f : Fault) → after_line (banks ns cs) k s ≡ faulty j f → j ≡ k
-own-place ns cs k Skipped j f e = absurd (apart (cc))
-own-place ns [] k (Need n) j f e = absurd (apart (cc))
-own-place ns (c ∷ cs) k (Need n) j f e = cc
-own-place [] cs k (Proposal n c) j f e = absurd (apart (cc))
-own-place (m ∷ ns) [] k (Proposal n c) j f e = cc
-own-place (m ∷ ns) (d ∷ cs) k (Proposal n c) j f e = absurd (apart (cc))
-own-place ns cs k (Wrong g) j f e = cc
+with-place : (ns cs : List ℕ) (k n : ℕ) (c : Option ℕ) (j : ℕ) (f : Fault) → with_bank ns cs k n c ≡ faulty j f → j ≡ k
+with-place ns [] k n None j f e = absurd (apart (cc))
+with-place ns (d ∷ cs) k n None j f e = cc
+with-place [] cs k n (Some c) j f e = absurd (apart (cc))
+with-place (m ∷ ns) [] k n (Some c) j f e = cc
+with-place (m ∷ ns) (d ∷ cs) k n (Some c) j f e = absurd (apart (cc))
+
+own-place : (ns cs : List ℕ) (k : ℕ) (s : Result (Option Bank) Fault) (j : ℕ) (f : Fault) → after_line (banks ns cs) k s ≡ faulty j f → j ≡ k
+own-place ns cs k (Ok None) j f e = absurd (apart (cc))
+own-place ns cs k (Ok (Some b)) j f e = with-place ns cs k b.need b.code j f e
+own-place ns cs k (Err g) j f e = cc
 
 fold-wrong : (ns cs : List ℕ) (k : ℕ) (ls : List (List ℕ)) (j : ℕ) (f : Fault) → parsed_from (banks ns cs) k ls ≡ faulty j f
     → FirstWrong (banks ns cs) k ls j f

@@ -1,20 +1,20 @@
 -- What a line says, by the tests of the code: a body's length (`body-..`), which lines are skipped (`skips-..`), and banks (`bank-..`).
 -- Assumes nothing.
 use mathlib.Core.Path.{◌≡◌, refl, ap, sym, ◌∙◌}
-use mathlib.Core.Bool.{Bool, cond, false, true, ◌&&◌, false≢true}
+use mathlib.Core.Bool.{Bool, false, true, ◌&&◌, false≢true}
 use mathlib.Core.List.{List, [], ◌∷◌}
-use Prim.Native.Nat.{ℕ, ◌-◌, ◌<◌, ◌≤◌}
+use Prim.Native.Nat.{ℕ, suc, ◌-◌, ◌<◌}
 use native.Mathlib.Omega.{arith}
 use borrow.Author.Tests.{eq-eqb, ne_eqb}
 use lib.Dec.{eqb}
 use lib.ListN.{drop, get_or, length, length-drop, take}
+use lib.Pointwise.{pointwise}
 use lib.Seq.{take_all}
 use Rattle.bank_list.specs.declared.Fault.TheVariants.{NotABank}
-use Rattle.bank_list.specs.declared.Line.TheVariants.{Skipped, Wrong}
-use Rattle.std.specs.Prelude.{Option}
+use Rattle.std.specs.Prelude.{Err, None, Ok, Option}
 use Rattle.std.specs.List.{list_all}
-use Rattle.bank_list.specs.Lines.{body_length, body_of, is_number, is_digit, is_blank, is_separator, leading_of, number_of, numbered}
-use Rattle.bank_list.specs.Lines.{bank_of, behind_need, line_of, need_said, proposal_said, skips}
+use Rattle.bank_list.specs.Lines.{body_of, is_number, is_digit, is_blank, is_separator, leading_of, number_of, numbered}
+use Rattle.bank_list.specs.Lines.{bank_of, behind_need, line_of, need_said, not_skipped, proposal_said, skips}
 use Rattle.bank_list.proofs.Scans.{all-leading}
 
 -- ---- parts of a slice
@@ -27,16 +27,23 @@ tail n l = take_all (length l - n) (drop n l) (omega (arith, length-drop n l))
 
 -- ---- bodies
 
-pub body-nil : (l : List ℕ) → length l ≡ 0 → body_length l ≡ 0
-body-nil [] e = e
-body-nil (b ∷ l) e = absurd (omega arith)
-
-pub body-le : (l : List ℕ) → body_length l ≤ length l
-body-le l = go (eqb (get_or l (length l - 1) 0) 13)
+-- the last byte is the carriage return
+ends : (l : List ℕ) → pointwise eqb (drop (length l - 1) l) (13 ∷ []) ≡ eqb (get_or l (length l - 1) 0) 13
+ends [] = refl
+ends (b ∷ []) = alone (eqb b 13)
   where
-    go : (t : Bool) → cond t (length l - 1) (length l) ≤ length l
-    go true = omega arith
-    go false = omega arith
+    alone : (t : Bool) → t && true ≡ t
+    alone true = refl
+    alone false = refl
+ends (b ∷ c ∷ l) =
+    let n : length (b ∷ c ∷ l) - 1 ≡ suc (length (c ∷ l) - 1) = omega arith in
+    rw n (ends (c ∷ l))
+
+pub body-cut : (l : List ℕ) → pointwise eqb (drop (length l - 1) l) (13 ∷ []) ≡ true → take (length l - 1) l ≡ body_of l
+body-cut l e = rw (sym (ends l) ∙ e)
+
+pub body-whole : (l : List ℕ) → pointwise eqb (drop (length l - 1) l) (13 ∷ []) ≡ false → l ≡ body_of l
+body-whole l e = rw (sym (ends l) ∙ e, take_all (length l) l (omega arith))
 
 -- ---- skipped lines
 
@@ -56,22 +63,19 @@ blank-nil (b ∷ l) e = omega arith
 
 -- ---- whole lines
 
-module _ (line s : List ℕ) (n : ℕ) (e : n ≡ body_length line) (q : s ≡ take n line) where
-  said-body : s ≡ body_of line
-  said-body = q ∙ ap (λ (k : ℕ). take k line) e
-
-  pub said-skipped : skips s ≡ true → line_of (body_of line) ≡ Skipped
+module _ (line s : List ℕ) (e : s ≡ body_of line) where
+  pub said-skipped : skips s ≡ true → line_of (body_of line) ≡ Ok None
   unfolding line_of
-  said-skipped t = rw (← said-body, t)
+  said-skipped t = rw (← e, t)
 
-  pub said-bank : skips s ≡ false → line_of (body_of line) ≡ bank_of s
+  pub said-bank : skips s ≡ false → line_of (body_of line) ≡ not_skipped (bank_of s)
   unfolding line_of
-  said-bank t = rw (← said-body, t)
+  said-bank t = rw (← e, t)
 
 -- ---- banks
 
 module _ (l : List ℕ) (d : ℕ) (e : d ≡ leading_of is_digit l) where
-  pub bank-none : d ≡ 0 → bank_of l ≡ Wrong NotABank
+  pub bank-none : d ≡ 0 → bank_of l ≡ Err NotABank
   unfolding bank_of
   bank-none z = rw (eq-eqb (leading_of is_digit l) 0 (sym e ∙ z))
 
@@ -93,7 +97,7 @@ module _ (l : List ℕ) (d : ℕ) (e : d ≡ leading_of is_digit l) where
       bank-more : bank_of l ≡ behind_need n (b ∷ s)
       bank-more = bank-behind ∙ ap (behind_need n) h
 
-      pub bank-apart : is_separator b && is_number s ≡ false → bank_of l ≡ Wrong NotABank
+      pub bank-apart : is_separator b && is_number s ≡ false → bank_of l ≡ Err NotABank
       bank-apart t = bank-more ∙ rw t
 
       pub bank-code : is_separator b && is_number s ≡ true → bank_of l ≡ proposal_said n (numbered (number_of s))

@@ -9,13 +9,12 @@ use lib.ListN.{length, length-append}
 use Rattle.bank_list.specs.declared.Fault.{Fault}
 use Rattle.bank_list.specs.declared.Fault.TheVariants.{CodeLacking, CodeSurplus}
 use Rattle.bank_list.specs.declared.Found.TheVariants as found
-use Rattle.bank_list.specs.declared.Line.{Line}
-use Rattle.bank_list.specs.declared.Line.TheVariants.{Skipped, Need, Proposal, Wrong}
+use Rattle.bank_list.specs.declared.Bank.{Bank}
 use Rattle.bank_list.specs.declared.Listed.{Listed}
 use Rattle.bank_list.specs.declared.WrongLine.{WrongLine}
-use Rattle.std.specs.Prelude.{Result, Ok, Err, is_ok}
+use Rattle.std.specs.Prelude.{Option, Some, None, Result, Ok, Err, is_ok}
 use Rattle.std.specs.Result.{result_unwrap_or}
-use Rattle.bank_list.specs.Banks.{Paired, Parsed, after_line, banks, faulty, handed, kept, listed, most_kept, put_at, wrong_at}
+use Rattle.bank_list.specs.Banks.{Paired, Parsed, after_line, banks, faulty, handed, kept, listed, most_kept, put_at, with_bank, with_code, wrong_at}
 use Rattle.bank_list.proofs.Kept.{kept_more, kept-zero}
 
 -- what two cases would be, were they one
@@ -31,17 +30,17 @@ unheld l w e = false≢true (sym (ap is_ok e))
 count-more : (xs : List ℕ) (x at : ℕ) → at ≡ min (length xs) most_kept → min (at + 1) most_kept ≡ min (length (xs ++ x ∷ [])) most_kept
 count-more xs x at e = omega (arith, length-append xs (x ∷ []))
 
-pub skipped-stays : (p : Parsed) (k : ℕ) → listed p ≡ listed (after_line p k Skipped)
+pub skipped-stays : (p : Parsed) (k : ℕ) → listed p ≡ listed (after_line p k (Ok None))
 skipped-stays (banks ns cs) k = refl
 skipped-stays (faulty j f) k = refl
 
 -- what a line says, as another name for it
-pub said-as : (p : Parsed) (k : ℕ) (s t : Line) → s ≡ t → listed (after_line p k t) ≡ listed (after_line p k s)
-said-as p k s t e = ap (λ (x : Line). listed (after_line p k x)) (sym e)
+pub said-as : (p : Parsed) (k : ℕ) (s t : Result (Option Bank) Fault) → s ≡ t → listed (after_line p k t) ≡ listed (after_line p k s)
+said-as p k s t e = ap (λ (x : Result (Option Bank) Fault). listed (after_line p k x)) (sym e)
 
 -- ---- faults
 
-pub fault-told : (p : Parsed) (l : Listed) → Ok l ≡ listed p → (k : ℕ) (f : Fault) → Err (wrong_at k f) ≡ listed (after_line p k (Wrong f))
+pub fault-told : (p : Parsed) (l : Listed) → Ok l ≡ listed p → (k : ℕ) (f : Fault) → Err (wrong_at k f) ≡ listed (after_line p k (Err f))
 unfolding listed
 fault-told (banks ns cs) l e k f = refl
 fault-told (faulty j g) l e k f = absurd (unheld l (wrong_at j g) e)
@@ -50,7 +49,7 @@ fault-told (faulty j g) l e k f = absurd (unheld l (wrong_at j g) e)
 
 module _ (k n count : ℕ) (l : Listed) where
   pub need-needs : (p : Parsed) → Ok l ≡ listed p → l.found ≡ found.Needs count
-      → Ok (put_at (found.Needs (min (count + 1) most_kept)) count n 0 l) ≡ listed (after_line p k (Need n))
+      → Ok (put_at (found.Needs (min (count + 1) most_kept)) count n 0 l) ≡ listed (after_line p k (with_code n None))
   unfolding listed
   need-needs (banks ns []) e q =
       let own : l ≡ handed ns [] = handed-as l (handed ns []) e in
@@ -63,7 +62,7 @@ module _ (k n count : ℕ) (l : Listed) where
       absurd (apart (cc))
   need-needs (faulty j f) e q = absurd (unheld l (wrong_at j f) e)
 
-  pub need-proposals : (p : Parsed) → Ok l ≡ listed p → l.found ≡ found.Proposals count → Err (wrong_at k CodeLacking) ≡ listed (after_line p k (Need n))
+  pub need-proposals : (p : Parsed) → Ok l ≡ listed p → l.found ≡ found.Proposals count → Err (wrong_at k CodeLacking) ≡ listed (after_line p k (with_code n None))
   unfolding listed
   need-proposals (banks ns []) e q =
       let same : found.Needs (min (length ns) most_kept) ≡ found.Proposals count = sym (ap (λ (x : Listed). x.found) (handed-as l (handed ns []) e)) ∙ q in
@@ -75,7 +74,7 @@ module _ (k n count : ℕ) (l : Listed) where
 
 module _ (k n c count : ℕ) (l : Listed) where
   pub proposal-first : (p : Parsed) → Ok l ≡ listed p → l.found ≡ found.Needs count → count ≡ 0
-      → Ok (put_at (found.Proposals 1) 0 n c l) ≡ listed (after_line p k (Proposal n c))
+      → Ok (put_at (found.Proposals 1) 0 n c l) ≡ listed (after_line p k (with_code n (Some c)))
   unfolding listed kept
   proposal-first (banks [] []) e q z = ap (λ (x : Listed). Ok (put_at (found.Proposals 1) 0 n c x)) (handed-as l (handed [] []) e)
   proposal-first (banks (m ∷ ns) []) e q z =
@@ -88,7 +87,7 @@ module _ (k n c count : ℕ) (l : Listed) where
   proposal-first (faulty j f) e q z = absurd (unheld l (wrong_at j f) e)
 
   pub proposal-surplus : (p : Parsed) → Ok l ≡ listed p → l.found ≡ found.Needs count → (count ≡ 0 → ⊥)
-      → Err (wrong_at k CodeSurplus) ≡ listed (after_line p k (Proposal n c))
+      → Err (wrong_at k CodeSurplus) ≡ listed (after_line p k (with_code n (Some c)))
   unfolding listed
   proposal-surplus (banks [] []) e q z =
       let same : found.Needs (min 0 most_kept) ≡ found.Needs count = sym (ap (λ (x : Listed). x.found) (handed-as l (handed [] []) e)) ∙ q in
@@ -101,7 +100,7 @@ module _ (k n c count : ℕ) (l : Listed) where
   proposal-surplus (faulty j f) e q z = absurd (unheld l (wrong_at j f) e)
 
   pub proposal-proposals : (p : Parsed) → Paired p → Ok l ≡ listed p → l.found ≡ found.Proposals count
-      → Ok (put_at (found.Proposals (min (count + 1) most_kept)) count n c l) ≡ listed (after_line p k (Proposal n c))
+      → Ok (put_at (found.Proposals (min (count + 1) most_kept)) count n c l) ≡ listed (after_line p k (with_code n (Some c)))
   unfolding listed
   proposal-proposals (banks ns []) w e q =
       let same : found.Needs (min (length ns) most_kept) ≡ found.Proposals count = sym (ap (λ (x : Listed). x.found) (handed-as l (handed ns []) e)) ∙ q in
@@ -118,12 +117,15 @@ module _ (k n c count : ℕ) (l : Listed) where
 
 -- ---- pairs
 
-pub paired-after : (p : Parsed) (k : ℕ) (s : Line) → Paired p → Paired (after_line p k s)
+paired-with : (ns cs : List ℕ) (k n : ℕ) (c : Option ℕ) → Paired (banks ns cs) → Paired (with_bank ns cs k n c)
+paired-with ns [] k n None w = tt
+paired-with ns (d ∷ cs) k n None w = tt
+paired-with [] cs k n (Some c) w = refl
+paired-with (m ∷ ns) [] k n (Some c) w = tt
+paired-with (m ∷ ns) (d ∷ cs) k n (Some c) w = omega (arith, length-append (m ∷ ns) (n ∷ []), length-append (d ∷ cs) (c ∷ []))
+
+pub paired-after : (p : Parsed) (k : ℕ) (s : Result (Option Bank) Fault) → Paired p → Paired (after_line p k s)
 paired-after (faulty j f) k s w = tt
-paired-after (banks ns cs) k Skipped w = w
-paired-after (banks ns []) k (Need n) w = tt
-paired-after (banks ns (c ∷ cs)) k (Need n) w = tt
-paired-after (banks [] cs) k (Proposal n c) w = refl
-paired-after (banks (m ∷ ns) []) k (Proposal n c) w = tt
-paired-after (banks (m ∷ ns) (d ∷ cs)) k (Proposal n c) w = omega (arith, length-append (m ∷ ns) (n ∷ []), length-append (d ∷ cs) (c ∷ []))
-paired-after (banks ns cs) k (Wrong f) w = tt
+paired-after (banks ns cs) k (Ok None) w = w
+paired-after (banks ns cs) k (Ok (Some b)) w = paired-with ns cs k b.need b.code w
+paired-after (banks ns cs) k (Err f) w = tt

@@ -10,10 +10,10 @@ use native.Mathlib.Omega.{arith}
 use lib.Dec.{eqb}
 use lib.ListN.{drop, drop_of_length-le, length, length-drop, take}
 use lib.Seq.{drop-drop}
-use Rattle.std.specs.Prelude.{Result, Ok, Err, is_ok}
+use Rattle.std.specs.Prelude.{Option, Result, Ok, Err, is_ok}
 use Rattle.bank_list.specs.declared.Fault.{Fault}
 use Rattle.bank_list.specs.declared.WrongLine.{WrongLine}
-use Rattle.bank_list.specs.declared.Line.{Line}
+use Rattle.bank_list.specs.declared.Bank.{Bank}
 use Rattle.bank_list.specs.declared.Listed.{Listed}
 use Rattle.bank_list.specs.Lines.{body_of, is_inside, leading_of, line_of, lines_of, onto}
 use Rattle.bank_list.specs.Banks.{Paired, Parsed, after_line, banks, faulty, listed, parsed, parsed_from}
@@ -76,7 +76,7 @@ module _ (text : List ℕ) (l : Listed) (done at : ℕ) (g : Going text l done a
             ∙ ap₂ (λ (k : ℕ) (r : List ℕ). take k r ∷ lines_of (drop (suc k) r)) (sym m) (sym q)
             ∙ ap (λ (r : List ℕ). take n (drop at text) ∷ lines_of r) (drop-drop (suc n) at text ∙ ap (λ (k : ℕ). drop k text) far)
 
-    module _ (r : Result Listed WrongLine) (said : Line) (q : said ≡ line_of (body_of (take n (drop at text))))
+    module _ (r : Result Listed WrongLine) (said : Result (Option Bank) Fault) (q : said ≡ line_of (body_of (take n (drop at text))))
         (f : (p : Parsed) → Paired p → Ok l ≡ listed p → r ≡ listed (after_line p (done + 1) said)) where
       abbrev next : Parsed
       next = after_line g.state (done + 1) said
@@ -86,7 +86,7 @@ module _ (text : List ℕ) (l : Listed) (done at : ℕ) (g : Going text l done a
       on =
           g.left
           ∙ ap (parsed_from g.state done) first
-          ∙ ap₂ (λ (k : ℕ) (s : Line). parsed_from (after_line g.state k s) k (lines_of (drop (at + n + 1) text))) (sym (add-one done)) (sym q)
+          ∙ ap₂ (λ (k : ℕ) (s : Result (Option Bank) Fault). parsed_from (after_line g.state k s) k (lines_of (drop (at + n + 1) text))) (sym (add-one done)) (sym q)
 
       -- a wrong line ends it
       pub going-wrong : (w : WrongLine) → Err w ≡ r → Err w ≡ listed (parsed text)

@@ -1,12 +1,11 @@
 -- What the lines of a list of banks give together (REFERENCE, "Widths for banks"), and how it is handed over.
 -- Assumes nothing.
-use Rattle.std.specs.Prelude.{ℕ, suc, min, ◌≡◌, cond, List, [], ◌∷◌, ◌++◌, ltb, length, take, set, replicate, Result, Ok, Err}
+use Rattle.std.specs.Prelude.{ℕ, suc, min, ◌≡◌, cond, List, [], ◌∷◌, ◌++◌, ltb, length, take, set, replicate, Option, Some, None, Result, Ok, Err}
 use Rattle.bank_list.specs.declared.Fault.{Fault}
 use Rattle.bank_list.specs.declared.Fault.TheVariants.{CodeLacking, CodeSurplus}
 use Rattle.bank_list.specs.declared.Found.{Found}
 use Rattle.bank_list.specs.declared.Found.TheVariants as found
-use Rattle.bank_list.specs.declared.Line.{Line}
-use Rattle.bank_list.specs.declared.Line.TheVariants.{Skipped, Need, Proposal, Wrong}
+use Rattle.bank_list.specs.declared.Bank.{Bank}
 use Rattle.bank_list.specs.declared.Listed.{Listed}
 use Rattle.bank_list.specs.declared.WrongLine.{WrongLine}
 use Rattle.bank_list.specs.Lines.{lines_of, body_of, line_of}
@@ -29,13 +28,16 @@ with_proposal [] cs k n c = banks (n ∷ []) (c ∷ [])
 with_proposal (m ∷ ns) [] k n c = faulty k CodeSurplus
 with_proposal (m ∷ ns) (d ∷ cs) k n c = banks ((m ∷ ns) ++ n ∷ []) ((d ∷ cs) ++ c ∷ [])
 
+abbrev pub with_bank : List ℕ → List ℕ → ℕ → ℕ → Option ℕ → Parsed
+with_bank ns cs k n None = with_need ns cs k n
+with_bank ns cs k n (Some c) = with_proposal ns cs k n c
+
 -- line k; behind a wrong line nothing counts
-abbrev pub after_line : Parsed → ℕ → Line → Parsed
+abbrev pub after_line : Parsed → ℕ → Result (Option Bank) Fault → Parsed
 after_line (faulty j f) k l = faulty j f
-after_line (banks ns cs) k Skipped = banks ns cs
-after_line (banks ns cs) k (Need n) = with_need ns cs k n
-after_line (banks ns cs) k (Proposal n c) = with_proposal ns cs k n c
-after_line (banks ns cs) k (Wrong f) = faulty k f
+after_line (banks ns cs) k (Ok None) = banks ns cs
+after_line (banks ns cs) k (Ok (Some b)) = with_bank ns cs k b.need b.code
+after_line (banks ns cs) k (Err f) = faulty k f
 
 -- k lines, and then these
 unfoldable pub parsed_from : Parsed → ℕ → List (List ℕ) → Parsed
@@ -74,6 +76,10 @@ listed (banks ns cs) = Ok (handed ns cs)
 listed (faulty k f) = Err (wrong_at k f)
 
 -- ---- for the contracts of single steps
+
+-- a line that says a bank
+abbrev pub with_code : ℕ → Option ℕ → Result (Option Bank) Fault
+with_code n c = Ok (Some (record { need = n; code = c }))
 
 -- x at its place; where it has none it is left out
 abbrev pub stored_at : ℕ → ℕ → List ℕ → List ℕ

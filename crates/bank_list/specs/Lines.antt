@@ -1,9 +1,9 @@
 -- What a line of a list of banks is, and what it says (REFERENCE, "Widths for banks").
 -- Assumes nothing.
-use Rattle.std.specs.Prelude.{ℕ, suc, ◌+◌, ◌*◌, ◌-◌, ◌^◌, Bool, cond, not, ◌&&◌, ◌||◌, List, [], ◌∷◌, eqb, leb, ltb, length, get_or, take, drop, Option, Some, None}
+use Rattle.std.specs.Prelude.{ℕ, suc, ◌+◌, ◌*◌, ◌-◌, ◌^◌, Bool, cond, not, ◌&&◌, ◌||◌, List, [], ◌∷◌, eqb, leb, ltb, length, get_or, take, drop, Option, Some, None, Result, Ok, Err}
+use Rattle.bank_list.specs.declared.Fault.{Fault}
 use Rattle.bank_list.specs.declared.Fault.TheVariants.{NotABank, NeedPast, CodePast}
-use Rattle.bank_list.specs.declared.Line.{Line}
-use Rattle.bank_list.specs.declared.Line.TheVariants.{Skipped, Need, Proposal, Wrong}
+use Rattle.bank_list.specs.declared.Bank.{Bank}
 
 -- ---- lines
 
@@ -70,31 +70,36 @@ numbered n = cond (ltb n (2 ^ 64)) (Some n) None
 -- ---- what a line says
 
 -- a need alone
-abbrev pub need_said : Option ℕ → Line
-need_said (Some n) = Need n
-need_said None = Wrong NeedPast
+abbrev pub need_said : Option ℕ → Result Bank Fault
+need_said (Some n) = Ok (record { need = n; code = None })
+need_said None = Err NeedPast
 
 -- a need and a code, which is a byte: the need is judged first
-abbrev pub proposal_said : Option ℕ → Option ℕ → Line
-proposal_said None c = Wrong NeedPast
-proposal_said (Some n) None = Wrong CodePast
-proposal_said (Some n) (Some c) = cond (ltb c 256) (Proposal n c) (Wrong CodePast)
+abbrev pub proposal_said : Option ℕ → Option ℕ → Result Bank Fault
+proposal_said None c = Err NeedPast
+proposal_said (Some n) None = Err CodePast
+proposal_said (Some n) (Some c) = cond (ltb c 256) (Ok (record { need = n; code = Some c })) (Err CodePast)
 
 -- behind the need stands nothing, or one separator and the code
-abbrev pub behind_need : Option ℕ → List ℕ → Line
+abbrev pub behind_need : Option ℕ → List ℕ → Result Bank Fault
 behind_need n [] = need_said n
-behind_need n (b ∷ s) = cond (is_separator b && is_number s) (proposal_said n (numbered (number_of s))) (Wrong NotABank)
+behind_need n (b ∷ s) = cond (is_separator b && is_number s) (proposal_said n (numbered (number_of s))) (Err NotABank)
 
 -- A bank's line begins with the digits of its need.
-unfoldable pub bank_of : List ℕ → Line
+unfoldable pub bank_of : List ℕ → Result Bank Fault
 bank_of l =
-    cond (eqb (leading_of is_digit l) 0) (Wrong NotABank)
+    cond (eqb (leading_of is_digit l) 0) (Err NotABank)
     (behind_need (numbered (number_of (take (leading_of is_digit l) l))) (drop (leading_of is_digit l) l))
 
 -- A line of blanks alone, or of nothing, is skipped, and one that begins with '#', 35.
 unfoldable pub skips : List ℕ → Bool
 skips l = eqb (leading_of is_blank l) (length l) || eqb (get_or l 0 0) 35
 
+-- a line that is not skipped
+abbrev pub not_skipped : Result Bank Fault → Result (Option Bank) Fault
+not_skipped (Ok b) = Ok (Some b)
+not_skipped (Err f) = Err f
+
 -- what a line says, without its carriage return
-unfoldable pub line_of : List ℕ → Line
-line_of l = cond (skips l) Skipped (bank_of l)
+unfoldable pub line_of : List ℕ → Result (Option Bank) Fault
+line_of l = cond (skips l) (Ok None) (not_skipped (bank_of l))

@@ -2,11 +2,11 @@
 // specs/Lines.antt says what a line is and what it says, specs/Banks.antt what the lines of a text give together.
 #![tactic(auto)]
 
-ghost use Rattle.std.specs.Prelude.{◌≡◌, ◌+◌, ◌*◌, ◌-◌, [], min, Ok};
+ghost use Rattle.std.specs.Prelude.{◌≡◌, ◌+◌, ◌*◌, ◌-◌, [], min, None, Ok, Some};
 ghost use Rattle.std.specs.List.{list_all, prefix_len};
 ghost use Rattle.bank_list.specs.Lines.{body_length, body_of, is_blank, is_digit, is_inside, is_number, is_separator, number_of, numbered};
 ghost use Rattle.bank_list.specs.Lines.{bank_of, line_of, need_said, proposal_said, skips};
-ghost use Rattle.bank_list.specs.Banks.{Paired, Parsed, after_line, banks, listed, most_kept, parsed, put_at};
+ghost use Rattle.bank_list.specs.Banks.{Paired, Parsed, after_line, banks, listed, most_kept, parsed, put_at, with_code};
 
 // What is wrong with a line: it cannot be read, its need is past 64 bits, its code is past a byte, it lacks a code where an earlier bank has one,
 // or it has one where an earlier bank has none.
@@ -36,7 +36,7 @@ pub enum Found {
 // One more than a list may have tells as much as any number does.
 pub const KEPT: usize = 33;
 
-// The banks kept, with zeros behind them.
+// The banks kept, with zeros behind them: arrays beside a count, since nothing here allocates.
 #[derive(Clone, Copy)]
 pub struct Listed {
     pub found: Found,
@@ -44,13 +44,11 @@ pub struct Listed {
     pub codes: [u8; 33],
 }
 
-// What a line says.
-#[derive(Drop)]
-enum Line {
-    Skipped,
-    Need(u64),
-    Proposal(u64, u8),
-    Wrong(Fault),
+// What a line says that is not skipped: a need, and its code where it has one.
+#[derive(Clone, Copy)]
+struct Bank {
+    need: u64,
+    code: Option<u8>,
 }
 
 // ---- bytes and numbers
@@ -117,37 +115,33 @@ fn is_number(s: &[u8]) -> bool
 
 // ---- lines
 
-fn need_said(need: Option<u64>) -> Line
+fn need_said(need: Option<u64>) -> Result<Bank, Fault>
     ensures { result ≡ need_said need }
 {
-    match need {
-        Some(n) => Line::Need(n),
-        None => Line::Wrong(Fault::NeedPast),
-    }
+    let need = need.ok_or(Fault::NeedPast)?;
+    Ok(Bank { need, code: None })
 }
 
-fn proposal_said(need: Option<u64>, code: Option<u64>) -> Line
+fn proposal_said(need: Option<u64>, code: Option<u64>) -> Result<Bank, Fault>
     ensures { result ≡ proposal_said need code }
 {
-    let Some(n) = need else {
-        return Line::Wrong(Fault::NeedPast);
-    };
-    let Some(c) = code else {
-        return Line::Wrong(Fault::CodePast);
-    };
-    if c < 256 {
-        return Line::Proposal(n, c as u8);
+    let need = need.ok_or(Fault::NeedPast)?;
+    match code {
+        Some(c) if c < 256 => Ok(Bank {
+            need,
+            code: Some(c as u8),
+        }),
+        _ => Err(Fault::CodePast),
     }
-    Line::Wrong(Fault::CodePast)
 }
 
 // What a line says that is not skipped.
-fn bank_said(body: &[u8]) -> Line
+fn bank_said(body: &[u8]) -> Result<Bank, Fault>
     ensures { result ≡ bank_of body.now }
 {
     let d = digits(body);
     if d == 0 {
-        return Line::Wrong(Fault::NotABank);
+        return Err(Fault::NotABank);
     }
     let need = number_of(&body[..d]);
     let Some((between, code)) = body[d..].split_first() else {
@@ -156,7 +150,7 @@ fn bank_said(body: &[u8]) -> Line
     if is_separator(*between) && is_number(code) {
         return proposal_said(need, number_of(code));
     }
-    Line::Wrong(Fault::NotABank)
+    Err(Fault::NotABank)
 }
 
 fn all_blank(s: &[u8]) -> bool
@@ -171,25 +165,22 @@ fn is_skipped(body: &[u8]) -> bool
     all_blank(body) || body[0] == b'#'
 }
 
-// How long a line is without the carriage return that it may end in.
-fn body_length(line: &[u8]) -> usize
-    ensures { result ≡ body_length line.now }
+// A line without the carriage return that it may end in.
+fn body(line: &[u8]) -> &[u8]
+    ensures { result.now ≡ body_of line.now }
 {
-    match line.last() {
-        Some(b'\r') => line.len() - 1,
-        _ => line.len(),
-    }
+    line.strip_suffix(b"\r").unwrap_or(line)
 }
 
-fn line_said(line: &[u8]) -> Line
+// What a line says; a skipped one says nothing.
+fn line_said(line: &[u8]) -> Result<Option<Bank>, Fault>
     ensures { result ≡ line_of (body_of line.now) }
 {
-    let n = body_length(line);
-    let body = &line[..n];
+    let body = body(line);
     if is_skipped(body) {
-        return Line::Skipped;
+        return Ok(None);
     }
-    bank_said(body)
+    Ok(Some(bank_said(body)?))
 }
 
 // ---- banks
@@ -198,7 +189,7 @@ fn line_said(line: &[u8]) -> Line
 fn one_more(count: usize) -> usize
     ensures { result ≡ min (count + 1) most_kept }
 {
-    if count < KEPT { count + 1 } else { KEPT }
+    count.saturating_add(1).min(KEPT)
 }
 
 // A bank at its place; one that has no place is not kept.
@@ -230,7 +221,7 @@ fn empty() -> Listed
 
 // What is found with one need more, on this line.
 fn with_need(l: Listed, line: usize, need: u64) -> Result<Listed, WrongLine>
-    ensures { (p : Parsed) → Paired p → Ok l ≡ listed p → result ≡ listed (after_line p line (Line.Need need)) }
+    ensures { (p : Parsed) → Paired p → Ok l ≡ listed p → result ≡ listed (after_line p line (with_code need None)) }
 {
     match l.found {
         Found::Needs(count) => Ok(put(l, Found::Needs(one_more(count)), count, need, 0)),
@@ -243,7 +234,7 @@ fn with_need(l: Listed, line: usize, need: u64) -> Result<Listed, WrongLine>
 
 // What is found with one proposal more, on this line.
 fn with_proposal(l: Listed, line: usize, need: u64, code: u8) -> Result<Listed, WrongLine>
-    ensures { (p : Parsed) → Paired p → Ok l ≡ listed p → result ≡ listed (after_line p line (Line.Proposal need code)) }
+    ensures { (p : Parsed) → Paired p → Ok l ≡ listed p → result ≡ listed (after_line p line (with_code need (Some code))) }
 {
     match l.found {
         Found::Needs(count) => {
@@ -259,14 +250,20 @@ fn with_proposal(l: Listed, line: usize, need: u64, code: u8) -> Result<Listed, 
     }
 }
 
-fn after_line(l: Listed, line: usize, said: Line) -> Result<Listed, WrongLine>
+fn after_line(
+    l: Listed,
+    line: usize,
+    said: Result<Option<Bank>, Fault>,
+) -> Result<Listed, WrongLine>
     ensures { (p : Parsed) → Paired p → Ok l ≡ listed p → result ≡ listed (after_line p line said) }
 {
     match said {
-        Line::Skipped => Ok(l),
-        Line::Need(need) => with_need(l, line, need),
-        Line::Proposal(need, code) => with_proposal(l, line, need, code),
-        Line::Wrong(fault) => Err(WrongLine { line, fault }),
+        Ok(None) => Ok(l),
+        Ok(Some(bank)) => match bank.code {
+            None => with_need(l, line, bank.need),
+            Some(code) => with_proposal(l, line, bank.need, code),
+        },
+        Err(fault) => Err(WrongLine { line, fault }),
     }
 }
 

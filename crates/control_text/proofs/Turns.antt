@@ -11,9 +11,9 @@ use lib.ListN.{length, length-append}
 use lib.Seq.{sets}
 use Rattle.texts.specs.Written.{Puts}
 use Rattle.texts.proofs.Writing.{puts-as, puts-length, puts_none, puts_then}
-use Rattle.status_list.specs.declared.Found.TheVariants as found
+use Rattle.std.specs.Prelude.{None, Ok}
 use Rattle.status_list.specs.Words.{Word, is_status, status_in}
-use Rattle.status_list.specs.Found.{found_at, words_at}
+use Rattle.status_list.specs.Found.{found_at, status_found, words_at, wrong_found}
 use Rattle.status_list.proofs.Laws.{AllWithin, IsStatus, IsWrong, found-end, found-status, found-wrong, words-start}
 use Rattle.contents.specs.Contents.{Contents, holds, refused}
 use Rattle.book.specs.Book.{Read, opened_for}
@@ -74,6 +74,12 @@ module _ (q : Contents) (st : State) (s : List ℕ) where
   unfolding played_from
   played-wrong w ws r e = rw (r, e)
 
+-- a state that does not run is over
+pub not-running : (st : State) → ((sent : ℕ) → st ≡ Running sent → ⊥) → is_running st ≡ false
+not-running (Running sent) n = absurd (n sent refl)
+not-running Done n = refl
+not-running (Stopped p) n = refl
+
 -- ---- on and on
 
 pub record Going (b text : List ℕ) (first : State) (o : List ℕ) (st : State) (s : List ℕ) (at to : ℕ) (out : List ℕ) : Type 0 where
@@ -109,7 +115,7 @@ module _ (b text : List ℕ) (first : State) (o : List ℕ) (st : State) (s : Li
   q = opened_for Read b
 
   module _ (r : is_running st ≡ true) where
-    module _ (high low next : ℕ) (f : found_at text at ≡ found.Status high low next) where
+    module _ (high low next : ℕ) (f : found_at text at ≡ status_found high low next) where
       abbrev x : List ℕ
       x = high ∷ low ∷ []
 
@@ -166,11 +172,11 @@ module _ (b text : List ℕ) (first : State) (o : List ℕ) (st : State) (s : Li
       going-over e = close-all (played-over q st s (words_at text at) e)
 
       -- the statuses are
-      pub going_end : found_at text at ≡ found.End → (r ≡ told_of (run_of b first text)) × (out' ≡ sets o 0 (text_of (run_of b first text)))
+      pub going_end : found_at text at ≡ Ok None → (r ≡ told_of (run_of b first text)) × (out' ≡ sets o 0 (text_of (run_of b first text)))
       unfolding played_from
       going_end f = close-all (ap (played_from q st s) (found-end text at f))
 
-    pub going-wrong : (start end : ℕ) → is_running st ≡ true → found_at text at ≡ found.Wrong start end
+    pub going-wrong : (start end : ℕ) → is_running st ≡ true → found_at text at ≡ wrong_found start end
         → (record { steps = to; len = to; halt = Wrong start end } ≡ told_of (run_of b first text)) × (out ≡ sets o 0 (text_of (run_of b first text)))
     going-wrong start end r f =
         let is : IsWrong text at start end = found-wrong text at start end f in

@@ -14,14 +14,13 @@ ghost use Rattle.control_text.specs.Text.{run_of, sent_of, status_name, step_lin
 
 use controller::{Sending, State, Turn};
 use status::{CmdStatus, Status};
-use status_list::Found;
 use texts::{put_byte, put_decimal, put_form, put_text};
 
 // No text takes more: 128 bytes for each step, and for the last line.
 pub const LONGEST: usize = 128 * (forms::MOST_FRAMES + 2);
 
 // What ended a run: it is over, the statuses are, or a word is none.
-#[derive(Clone, Copy)]
+#[derive(Clone, Copy, PartialEq, Eq, Debug)]
 pub enum Halt {
     Ended,
     Waiting,
@@ -29,7 +28,7 @@ pub enum Halt {
 }
 
 // Where the last line begins, how long the text is, and what ended the run. Where a word is wrong there is no last line.
-#[derive(Clone, Copy)]
+#[derive(Clone, Copy, PartialEq, Eq, Debug)]
 pub struct Played {
     pub steps: usize,
     pub len: usize,
@@ -38,6 +37,7 @@ pub struct Played {
 
 // ---- a step's line
 
+// `char::from_digit` gives an `Option` of a char: no plainer.
 fn hex_digit(n: u8) -> u8
     requires { n < 16 }
     ensures { result ≡ hex_digit n }
@@ -50,12 +50,10 @@ fn put_bytes(out: &mut [u8], at: usize, bytes: &[u8]) -> usize
     ensures { Puts (spaced (map hex_of bytes.now) []) at out.old result out.new }
 {
     let mut to = at;
-    let mut i: usize = 0;
-    while i < bytes.len() {
+    for byte in bytes {
         let blank = put_byte(out, to, b' ');
-        let high = put_byte(out, blank, hex_digit(bytes[i] / 16));
-        to = put_byte(out, high, hex_digit(bytes[i] % 16));
-        i += 1;
+        let high = put_byte(out, blank, hex_digit(*byte / 16));
+        to = put_byte(out, high, hex_digit(*byte % 16));
     }
     to
 }
@@ -141,21 +139,7 @@ fn put_closing(out: &mut [u8], at: usize, state: State, status: &[u8]) -> usize
 fn is_running(state: State) -> bool
     ensures { result ≡ is_running state }
 {
-    match state {
-        State::Running(_) => true,
-        State::Done => false,
-        State::Stopped(_) => false,
-    }
-}
-
-fn sent_of(state: State) -> usize
-    ensures { result ≡ sent_of state }
-{
-    match state {
-        State::Running(sent) => sent,
-        State::Done => 0,
-        State::Stopped(_) => 0,
-    }
+    matches!(state, State::Running(_))
 }
 
 // The state behind a step.
@@ -174,17 +158,15 @@ fn close(out: &mut [u8], at: usize, state: State, status: &[u8]) -> Played
     ensures { Closes status.now state at out.old result out.new }
 {
     let len = put_closing(out, at, state, status);
-    if is_running(state) {
-        return Played {
-            steps: at,
-            len,
-            halt: Halt::Waiting,
-        };
-    }
+    let halt = if is_running(state) {
+        Halt::Waiting
+    } else {
+        Halt::Ended
+    };
     Played {
         steps: at,
         len,
-        halt: Halt::Ended,
+        halt,
     }
 }
 
@@ -199,25 +181,26 @@ fn run(book: &[u8], text: &[u8], first: State, out: &mut [u8]) -> Played
     let mut last = [0u8; 2];
     let mut at: usize = 0;
     let mut to: usize = 0;
-    while is_running(state) {
-        let found = status_list::next(text, at);
-        match found {
-            Found::Status { high, low, next } => {
-                last = [high, low];
-                let sending = controller::send(state, book);
-                to = put_step(out, to, sent_of(state), sending, &last);
-                state = hear(book, state, &last);
-                at = next;
-            }
-            Found::End => return close(out, to, state, &last),
-            Found::Wrong { start, end } => {
+    while let State::Running(sent) = state {
+        let found = match status_list::next(text, at) {
+            Ok(Some(found)) => found,
+            Ok(None) => return close(out, to, state, &last),
+            Err(wrong) => {
                 return Played {
                     steps: to,
                     len: to,
-                    halt: Halt::Wrong { start, end },
+                    halt: Halt::Wrong {
+                        start: wrong.start,
+                        end: wrong.end,
+                    },
                 };
             }
-        }
+        };
+        last = [found.high, found.low];
+        let sending = controller::send(state, book);
+        to = put_step(out, to, sent, sending, &last);
+        state = hear(book, state, &last);
+        at = found.next;
     }
     close(out, to, state, &last)
 }

@@ -7,10 +7,11 @@ use mathlib.Core.List.{List, [], ◌∷◌, ◌++◌, map}
 use Prim.Native.Nat.{ℕ}
 use Prim.Native.String.{String}
 use Rattle.texts.specs.Words.{word}
+use Rattle.std.specs.Prelude.{None, Ok, Option, Result}
 use Rattle.status_list.specs.declared.Found.{Found}
-use Rattle.status_list.specs.declared.Found.TheVariants.{End, Status, Wrong}
+use Rattle.status_list.specs.declared.Wrong.{Wrong}
 use Rattle.status_list.specs.Words.{Word, all_digits, begins, between, digit_of, in_comment, is_blank, is_status, status_in, word_of, words_from, words_in}
-use Rattle.status_list.specs.Found.{found_at, line_of, newlines_in, words_at}
+use Rattle.status_list.specs.Found.{found_at, line_of, newlines_in, status_found, words_at, wrong_found}
 
 -- ---- the words of texts
 
@@ -101,14 +102,15 @@ none_said = refl
 abbrev sample : List ℕ
 sample = word "#1\n040a 04G4\n# 2\n0A04 #\n"
 
-unfoldable pub found : List Found
+unfoldable pub found : List (Result (Option Found) Wrong)
 found =
     found_at sample 0 ∷ found_at sample 3 ∷ found_at sample 4 ∷ found_at sample 7 ∷ found_at sample 12 ∷ found_at sample 14 ∷ found_at sample 21
     ∷ found_at sample 23 ∷ found_at sample 24 ∷ found_at sample 99 ∷ []
 
 -- in the midst of a comment none is open, and in the midst of a word no word begins
 pub places : found ≡ (
-    Status 4 10 7 ∷ Status 4 10 7 ∷ Wrong 8 12 ∷ Wrong 8 12 ∷ Status 10 4 21 ∷ Wrong 15 16 ∷ Wrong 22 23 ∷ End ∷ End ∷ End ∷ [])
+    status_found 4 10 7 ∷ status_found 4 10 7 ∷ wrong_found 8 12 ∷ wrong_found 8 12 ∷ status_found 10 4 21 ∷ wrong_found 15 16 ∷ wrong_found 22 23
+    ∷ Ok None ∷ Ok None ∷ Ok None ∷ [])
 unfolding found found_at words_at newlines_in words_from begins in_comment is_blank between word_of all_digits digit_of
 places = refl
 

@@ -10,10 +10,11 @@ use native.Mathlib.Omega.{arith}
 use borrow.Author.Tests.{leb-false, leb-true, lt-ltb}
 use lib.Dec.{leb}
 use lib.ListN.{drop, get_or, length, length-drop}
+use Rattle.std.specs.Prelude.{Err, None, Ok, Option, Result, Some}
 use Rattle.status_list.specs.declared.Found.{Found}
-use Rattle.status_list.specs.declared.Found.TheVariants.{End, Status, Wrong}
+use Rattle.status_list.specs.declared.Wrong.{Wrong}
 use Rattle.status_list.specs.Words.{Word, add_if, begins, in_comment, is_status, line_behind, status_in, word_of, words_from, words_in}
-use Rattle.status_list.specs.Found.{byte_before, first_of, found_at, line_of, newlines_in, skipped_from, word_length, words_at}
+use Rattle.status_list.specs.Found.{byte_before, first_of, found_at, line_of, newlines_in, skipped_from, status_found, word_length, words_at, wrong_found}
 use Rattle.status_list.proofs.Scans.{word-le}
 use Rattle.status_list.proofs.Walks.{word_at, word-length, word_some, words-none, words-word}
 
@@ -84,10 +85,10 @@ module _ (text : List ℕ) (at : ℕ) where
     pub some : start < end
     pub within : end ≤ length text
 
-  abbrev pub Finds : Found → Type 0
-  Finds (Status high low next) = IsStatus high low next
-  Finds End = words_at text at ≡ []
-  Finds (Wrong start end) = IsWrong start end
+  abbrev pub Finds : Result (Option Found) Wrong → Type 0
+  Finds (Ok (Some f)) = IsStatus f.high f.low f.next
+  Finds (Ok None) = words_at text at ≡ []
+  Finds (Err w) = IsWrong w.start w.end
 
   finds : (ws : List Word) → words_at text at ≡ ws → Finds (first_of ws)
   finds [] e = e
@@ -97,7 +98,7 @@ module _ (text : List ℕ) (at : ℕ) where
       n = words-next w ws e
 
       go : (t : Bool) → is_status w.bytes ≡ t
-          → Finds (cond t (Status (get_or (status_in w.bytes) 0 0) (get_or (status_in w.bytes) 1 0) (behind w)) (Wrong w.start (behind w)))
+          → Finds (cond t (status_found (get_or (status_in w.bytes) 0 0) (get_or (status_in w.bytes) 1 0) (behind w)) (wrong_found w.start (behind w)))
       go true s = record {
         word = w;
         words = e ∙ ap (λ (vs : List Word). w ∷ vs) n.onward;
@@ -121,13 +122,13 @@ module _ (text : List ℕ) (at : ℕ) where
   unfolding found_at
   found-finds = finds (words_at text at) refl
 
-  pub found-status : (high low next : ℕ) → found_at text at ≡ Status high low next → IsStatus high low next
+  pub found-status : (high low next : ℕ) → found_at text at ≡ status_found high low next → IsStatus high low next
   found-status high low next e = subst Finds e found-finds
 
-  pub found-wrong : (start end : ℕ) → found_at text at ≡ Wrong start end → IsWrong start end
+  pub found-wrong : (start end : ℕ) → found_at text at ≡ wrong_found start end → IsWrong start end
   found-wrong start end e = subst Finds e found-finds
 
-  pub found-end : found_at text at ≡ End → words_at text at ≡ []
+  pub found-end : found_at text at ≡ Ok None → words_at text at ≡ []
   found-end e = subst Finds e found-finds
 
 -- ---- where the words lie

@@ -11,7 +11,7 @@ use borrow.Author.Tests.{ne_eqb}
 use lib.Dec.{eqb}
 use lib.ListN.{drop, drop_of_length-le, get_or, length, length-drop, take}
 use lib.Seq.{get_or-drop, length-take-le, take_all, take-suc}
-use Rattle.status_list.specs.declared.Found.TheVariants.{End}
+use Rattle.std.specs.Prelude.{None, Ok}
 use Rattle.status_list.specs.Words.{Word, add_if, begins, between, in_comment, is_blank, line_behind, word_of, words_from}
 use Rattle.status_list.specs.Found.{byte_before, first_of, found_at, newlines_in, said_by, skipped_from, word_length, words_at}
 use Rattle.status_list.proofs.Scans.{from-here, skipped-le, word-le}
@@ -261,7 +261,7 @@ pub tail : (n : ℕ) (l : List ℕ) → take (length l - n) (drop n l) ≡ drop 
 tail n l = take_all (length l - n) (drop n l) (omega (arith, length-drop n l))
 
 module _ (text : List ℕ) (at : ℕ) where
-  pub found-past : length text ≤ at → found_at text at ≡ End
+  pub found-past : length text ≤ at → found_at text at ≡ Ok None
   unfolding found_at
   found-past h =
       let none : skipped_from false (byte_before text at) (drop at text) ≡ 0 =
@@ -275,7 +275,7 @@ module _ (text : List ℕ) (at : ℕ) where
     pub skipped-inside : at ≤ length text → at + n ≤ length text
     skipped-inside h = omega (arith, skipped-is, skipped-le false (byte_before text at) (drop at text), length-drop at text)
 
-    pub found_none : length text ≤ at + n → found_at text at ≡ End
+    pub found_none : length text ≤ at + n → found_at text at ≡ Ok None
     unfolding found_at
     found_none h = ap first_of (words-none text at n skipped-is h)
 

@@ -1,8 +1,8 @@
 -- What is found from a place of a text on: the first word that begins there (REFERENCE, "Controller").
 -- Assumes nothing.
-use Rattle.std.specs.Prelude.{ℕ, suc, ◌+◌, ◌-◌, Bool, cond, false, List, [], ◌∷◌, eqb, ltb, drop, get_or, length, take}
+use Rattle.std.specs.Prelude.{ℕ, suc, ◌+◌, ◌-◌, Bool, cond, false, List, [], ◌∷◌, eqb, ltb, drop, get_or, length, take, Option, Some, None, Result, Ok, Err}
 use Rattle.status_list.specs.declared.Found.{Found}
-use Rattle.status_list.specs.declared.Found.TheVariants.{End, Status, Wrong}
+use Rattle.status_list.specs.declared.Wrong.{Wrong}
 use Rattle.status_list.specs.Words.{Word, begins, in_comment, is_blank, is_status, status_in, words_from}
 
 -- ---- lines
@@ -25,16 +25,24 @@ byte_before text at = cond (eqb at 0) 10 (get_or text (at - 1) 0)
 unfoldable pub words_at : List ℕ → ℕ → List Word
 words_at text at = words_from false (byte_before text at) (newlines_in (take at text) + 1) at (drop at text)
 
--- what a word is that starts at a place and ends before another: a status, with the place where the next is sought, or none
-abbrev pub said_by : List ℕ → ℕ → ℕ → Found
-said_by w start end = cond (is_status w) (Status (get_or (status_in w) 0 0) (get_or (status_in w) 1 0) end) (Wrong start end)
+-- a status, with the place where the next is sought
+abbrev pub status_found : ℕ → ℕ → ℕ → Result (Option Found) Wrong
+status_found high low next = Ok (Some (record { high = high; low = low; next = next }))
 
-abbrev pub first_of : List Word → Found
-first_of [] = End
+-- where a word lies that is none
+abbrev pub wrong_found : ℕ → ℕ → Result (Option Found) Wrong
+wrong_found start end = Err (record { start = start; end = end })
+
+-- what a word is that starts at a place and ends before another
+abbrev pub said_by : List ℕ → ℕ → ℕ → Result (Option Found) Wrong
+said_by w start end = cond (is_status w) (status_found (get_or (status_in w) 0 0) (get_or (status_in w) 1 0) end) (wrong_found start end)
+
+abbrev pub first_of : List Word → Result (Option Found) Wrong
+first_of [] = Ok None
 first_of (w ∷ ws) = said_by w.bytes w.start (w.start + length w.bytes)
 
--- the first of them
-unfoldable pub found_at : List ℕ → ℕ → Found
+-- the first of them, if there is one
+unfoldable pub found_at : List ℕ → ℕ → Result (Option Found) Wrong
 found_at text at = first_of (words_at text at)
 
 -- ---- for the contracts of single steps

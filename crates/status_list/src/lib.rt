@@ -8,12 +8,19 @@ ghost use Rattle.std.specs.List.{position_or_len};
 ghost use Rattle.status_list.specs.Words.{all_digits, begins, digit_of, in_comment, is_blank, pair_of};
 ghost use Rattle.status_list.specs.Found.{byte_before, found_at, line_of, said_by, skipped_from};
 
-// The first word from a place on: the two bytes of a status, and the place behind it; no word; or where one lies that is not four hex digits.
-#[derive(Clone, Copy)]
-pub enum Found {
-    Status { high: u8, low: u8, next: usize },
-    End,
-    Wrong { start: usize, end: usize },
+// A word that is a status: its two bytes, and the place behind it.
+#[derive(Clone, Copy, PartialEq, Eq, Debug)]
+pub struct Found {
+    pub high: u8,
+    pub low: u8,
+    pub next: usize,
+}
+
+// Where a word lies that is not four hex digits.
+#[derive(Clone, Copy, PartialEq, Eq, Debug)]
+pub struct Wrong {
+    pub start: usize,
+    pub end: usize,
 }
 
 // ---- bytes
@@ -101,17 +108,17 @@ fn pair(a: u8, b: u8) -> u8
 }
 
 // What a word is that lies between two places.
-fn said(word: &[u8], start: usize, end: usize) -> Found
+fn said(word: &[u8], start: usize, end: usize) -> Result<Option<Found>, Wrong>
     ensures { result ≡ said_by word.now start end }
 {
     if word.len() == 4 && all_digits(word) {
-        return Found::Status {
+        return Ok(Some(Found {
             high: pair(word[0], word[1]),
             low: pair(word[2], word[3]),
             next: end,
-        };
+        }));
     }
-    Found::Wrong { start, end }
+    Err(Wrong { start, end })
 }
 
 // ---- a text
@@ -120,23 +127,23 @@ fn said(word: &[u8], start: usize, end: usize) -> Found
 fn byte_before(text: &[u8], at: usize) -> u8
     ensures { result ≡ byte_before text.now at }
 {
-    if at == 0 {
-        return b'\n';
+    match at.checked_sub(1) {
+        Some(i) => *text.get(i).unwrap_or(&0),
+        None => b'\n',
     }
-    let i = at - 1;
-    if i < text.len() { text[i] } else { 0 }
 }
 
-// The first word that begins from a place on. The byte before the place tells whether a line or a word begins there; no comment reaches there.
-pub fn next(text: &[u8], at: usize) -> Found
+// The first word that begins from a place on, if there is one. The byte before the place tells whether a line or a word begins there; no comment reaches
+// there.
+pub fn next(text: &[u8], at: usize) -> Result<Option<Found>, Wrong>
     ensures { result ≡ found_at text.now at }
 {
     if text.len() <= at {
-        return Found::End;
+        return Ok(None);
     }
     let start = at + skipped(byte_before(text, at), &text[at..]);
     if text.len() <= start {
-        return Found::End;
+        return Ok(None);
     }
     let end = start + word_length(&text[start..]);
     said(&text[start..end], start, end)

@@ -7,9 +7,10 @@ use native.Mathlib.Omega.{arith}
 use lib.ListN.{drop, length, length-drop, take}
 use lib.Seq.{length-take-le}
 use Rattle.std.proofs.Common.{rules}
-use Rattle.std.specs.Prelude.{Err}
+use Rattle.std.specs.Prelude.{Err, Option, Result}
 use Rattle.std.specs.List.{prefix_len}
-use Rattle.bank_list.specs.declared.Line.{Line}
+use Rattle.bank_list.specs.declared.Fault.{Fault}
+use Rattle.bank_list.specs.declared.Bank.{Bank}
 use Rattle.bank_list.specs.Lines.{body_of, is_inside, leading_of, line_of}
 use Rattle.bank_list.proofs.Scans.{leading_count, leading_le}
 use Rattle.bank_list.proofs.Said.{tail}
@@ -32,7 +33,7 @@ module _ (text : List ℕ) (at n : ℕ) where
   lengthened e = e ∙ leading_count is_inside (rest text at)
 
   -- what the line says
-  says : (said : Line) → said ≡ line_of (body_of (take n (rest text at))) → said ≡ line_of (body_of (take n (drop at text)))
+  says : (said : Result (Option Bank) Fault) → said ≡ line_of (body_of (take n (rest text at))) → said ≡ line_of (body_of (take n (drop at text)))
   says said e = e ∙ ap (λ (s : List ℕ). line_of (body_of s)) (ap (take n) (tail at text))
 
 pub loop-at-init : goal.loop-at-init

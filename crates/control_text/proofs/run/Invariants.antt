@@ -5,8 +5,8 @@ use lib.ListN.{length}
 use Rattle.control_text.proofs.Turns.{Going}
 use Rattle.control_text.proofs.run.Given as goal
 
-abbrev pub invariant-loop-found : goal.invariant-loop-found
-invariant-loop-found l = Going l.book l.text l.initial.state l.initial.out l.state l.last l.at l.to l.out
+abbrev pub invariant-loop-state : goal.invariant-loop-state
+invariant-loop-state l = Going l.book l.text l.initial.state l.initial.out l.state l.last l.at l.to l.out
 
-abbrev pub decreases-loop-found : goal.decreases-loop-found
-decreases-loop-found l = length l.text - l.at
+abbrev pub decreases-loop-state : goal.decreases-loop-state
+decreases-loop-state l = length l.text - l.at
