@@ -50,10 +50,9 @@ use Rattle.builder.specs.Building.{checked, makes}
 use Rattle.decoder.specs.Decoding.{Reading, decode, reading, refuses}
 use Rattle.codec.proofs.Laws.{decode-checked}
 use Rattle.codec.proofs.Places.{decode-own}
-use Rattle.reel.specs.declared.Step.TheVariants.{End}
 use Rattle.reel.specs.Reel.{reel_of, walk}
 use Rattle.reel.proofs.Walks.{walk-whole}
-use Rattle.std.specs.Prelude.{Ok, Err}
+use Rattle.std.specs.Prelude.{None, Ok, Err}
 use Rattle.book.proofs.Calls.{done_refused}
 use Rattle.book.proofs.Telling.{reel-length}
 
@@ -387,7 +386,7 @@ replay-whole o room fs h = rw (reel-length fs, le-leb _ _ h)
 
 -- what a replay wrote, stepped through by the reel's own step: the list's frames, in order, and then the end
 pub replay-steps : (o : List ℕ) (room : ℕ) (fs : List (List ℕ)) (n : ℕ) → (replay_on o room fs).answer ≡ Ok n
-    → walk n (take n (replay_on o room fs).output) 0 ≡ record { found = fs; last = End }
+    → walk n (take n (replay_on o room fs).output) 0 ≡ record { found = fs; last = Ok None }
 unfolding replay_on
 replay-steps o room fs n e =
     let t = tell-done (reel_of fs) o fs n e in

@@ -8,12 +8,11 @@ use native.Mathlib.Omega.{arith}
 use borrow.Author.Tests.{ltb-false, ltb-true}
 use lib.Dec.{ltb}
 use lib.ListN.{drop, get_or, length, take}
+use Rattle.std.specs.Prelude.{Some, Ok}
 use Rattle.reel.specs.declared.Cursor.{Cursor}
-use Rattle.reel.specs.Reel.{Unreeled, step_at, unreel}
-use Rattle.reel.specs.declared.Step.{Step}
-use Rattle.reel.specs.declared.Step.TheVariants as step
+use Rattle.reel.specs.declared.Framed.{Framed}
+use Rattle.reel.specs.Reel.{Unreeled, Step, step_at, unreel}
 use Rattle.reel.proofs.Found.{Cut, Ended, Whole, step-whole}
-use Rattle.reel.proofs.Walks.{from_end}
 use Rattle.controller.specs.declared.Ahead.{Ahead}
 use Rattle.controller.specs.declared.Ahead.TheVariants as ahead
 use Rattle.controller.specs.Controller.{Lies, LiesAt, behind_of, is_over}
@@ -93,9 +92,6 @@ module _ (reel : List ℕ) (sent at left : ℕ) (g : Seeking reel sent at left) 
   pub left_cut : (why : _) → Cut reel at why → (a : Ahead) → a ≡ behind_of sent left → Lies reel (unreel reel).frames sent a
   left_cut why k = nothing_left (ap (λ (u : Unreeled). u.frames) k.made)
 
-  pub left_out : length reel ≤ at → (a : Ahead) → a ≡ behind_of sent left → Lies reel (unreel reel).frames sent a
-  left_out h = nothing_left (ap (λ (u : Unreeled). u.frames) (from_end reel at (omega (arith, g.inside))))
-
 -- ---- what a caller learns
 
 module _ (reel : List ℕ) (fs : List (List ℕ)) (sent : ℕ) (a : Ahead) (l : Lies reel fs sent a) where
@@ -112,10 +108,10 @@ module _ (reel : List ℕ) (fs : List (List ℕ)) (sent : ℕ) (a : Ahead) (l : 
   lies-nothing e = subst (Lies reel fs sent) e l
 
 -- the frame that is told where none of those sent is left
-pub frame_told : (reel : List ℕ) (sent start end : ℕ) {at left : ℕ} {told : Step} {next : Cursor} → Seeking reel sent at left → told ≡ step_at reel at
-    → told ≡ step.Frame start end next → left ≡ 0 → Lies reel (unreel reel).frames sent (ahead.Frame start end)
-frame_told reel sent start end {at} {left} {told} {next} g e f z =
-    frame_here reel sent at left g start end next (step-whole reel at start end next (sym e ∙ f)) z
+pub frame_told : (reel : List ℕ) (sent : ℕ) (f : Framed) {at left : ℕ} {told : Step} → Seeking reel sent at left → told ≡ step_at reel at
+    → told ≡ Ok (Some f) → left ≡ 0 → Lies reel (unreel reel).frames sent (ahead.Frame f.start f.end)
+frame_told reel sent f {at} {left} {told} g e is z =
+    frame_here reel sent at left g f.start f.end f.next (step-whole reel at f (sym e ∙ is)) z
 
 -- what the check tries at the goals of `look_ahead`
 pub ruleset ahead_steps = (frame_told)

@@ -8,7 +8,7 @@ ghost use Rattle.reel.specs.Reel.{unreel};
 ghost use Rattle.book.specs.Book.{Read, opened_for};
 ghost use Rattle.controller.specs.Controller.{Lies, bare, behind_of, goes_on, heard_of, heard_on, is_good, judged_by, sending_of, sends_of, start_of};
 
-use reel::{Cursor, Step};
+use reel::Cursor;
 use refusal::Refusal;
 use status::{CmdStatus, Status};
 
@@ -60,26 +60,22 @@ fn behind(sent: usize, left: usize) -> Ahead
 }
 
 // What comes behind the frames that are sent.
-#[tactic(auto, using(crate::proofs::Walking::ahead_steps))]
+#[tactic(auto, using(crate::proofs::Walking::ahead_steps, reel::proofs::Found::found_steps))]
 fn look_ahead(reel: &[u8], sent: usize) -> Ahead
     ensures { Lies reel.now (unreel reel.now).frames sent result }
 {
     let mut left = sent;
     let mut cursor = Cursor::new();
-    while cursor.at < reel.len() {
-        let step = cursor.step(reel);
-        match step {
-            Step::Frame { start, end, next } => {
-                if left == 0 {
-                    return Ahead::Frame { start, end };
-                }
-                left -= 1;
-                cursor = next;
-            }
-            // A replay is whole, and the loop ends where it does; any other reel has no frame here either.
-            Step::End => return behind(sent, left),
-            Step::Refused(_) => return behind(sent, left),
+    // A replay is whole, and the loop ends where it does; any other reel has no frame where a step is refused either.
+    while let Ok(Some(found)) = cursor.step(reel) {
+        if left == 0 {
+            return Ahead::Frame {
+                start: found.start,
+                end: found.end,
+            };
         }
+        left -= 1;
+        cursor = found.next;
     }
     behind(sent, left)
 }

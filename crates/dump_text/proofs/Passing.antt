@@ -130,12 +130,24 @@ module _ (more : Bool) (index : ℕ) (input out₀ : List ℕ) where
             ∙ ap₂ (λ (o : List ℕ) (m : ℕ). sets o m l.text) (sym p.stands) (sym p.behind);
       }
 
-  module _ (used written next : ℕ) (out : List ℕ) (to : ℕ) (out₁ : List ℕ) (g : Going used written next out) (k : to ≤ length out₀) where
+  module _ (used written next : ℕ) (out : List ℕ) (g : Going used written next out) where
+    -- what the loop's test finds, of the output as it was lent
+    pub going-test : (t x : Bool) → t ≡ goes_on (length out - written) next → t ≡ x → goes_on (length out₀ - written) next ≡ x
+    going-test t x e h = ap (λ (n : ℕ). goes_on (n - written) next) (sym g.same) ∙ sym e ∙ h
+
+    pub frame-fits : goes_on (length out₀ - written) next ≡ true → (f : List ℕ) → written + length (line_of next (decode f)) ≤ length out
+    frame-fits t = room-frame (length out₀) (length out) written next (goes-room _ _ t) g.same
+
+    pub refusal-fits : goes_on (length out₀ - written) next ≡ true → (why : Refusal) → written + length (line_of next (refuses why)) ≤ length out
+    refusal-fits t = room-refusal (length out₀) (length out) written next (goes-room _ _ t) g.same
+
+  module _ (used written next : ℕ) (out : List ℕ) (to : ℕ) (out₁ : List ℕ) (g : Going used written next out) where
     pub going-frame : (start end : ℕ) (after : Cursor) → goes_on (length out₀ - written) next ≡ true → Whole input used start end after
         → Puts (line_of next (decode (take (end - start) (drop start input)))) written out to out₁ → Going after.at to (next + 1) out₁
     going-frame start end after t w p =
         let f : List ℕ = take (end - start) (drop start input) in
         let text : List ℕ = line_of next (decode f) in
+        let k : to ≤ length out₀ = omega (arith, p.behind, frame-fits used written next out g t f, g.same) in
         let long : length f ≡ end - start = simp (length-take, length-drop) (omega (arith, w.inside)) in
         let n : used + suc (length f) ≡ end = omega (arith, w.behind, w.forward) in
         let u : Unreeled = unreel (drop end input) in
@@ -153,6 +165,7 @@ module _ (more : Bool) (index : ℕ) (input out₀ : List ℕ) where
     going-cut why t m w p =
         let rest : List ℕ = drop (used + 1) input in
         let text : List ℕ = line_of next (refuses ReelCut) in
+        let k : to ≤ length out₀ = omega (arith, p.behind, refusal-fits used written next out g t why, g.same) in
         let n : used + suc (length rest) ≡ length input = omega (arith, w.inside, length-drop (used + 1) input) in
         let end : unreel (drop (length input) input) ≡ record { frames = []; rest = [] } =
         ap unreel (drop_of_length-le input {i = length input} (omega arith)) ∙ unreel-nil

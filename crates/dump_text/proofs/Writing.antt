@@ -36,9 +36,6 @@ module _ {a o p : List ℕ} {at r : ℕ} where
   pub puts-length : Puts a at o r p → length p ≡ length o
   puts-length u = ap length u.stands ∙ length-sets o at a
 
-  pub puts-within : (n : ℕ) → at + length a ≤ n → Puts a at o r p → r ≤ n
-  puts-within n h u = omega (arith, u.behind)
-
   pub puts-as : (b : List ℕ) → b ≡ a → Puts a at o r p → Puts b at o r p
   puts-as b e u = rw e u
 

@@ -11,7 +11,7 @@ ghost use Rattle.dump_text.specs.Text.{blanked, head_of, line_of, text_of};
 ghost use Rattle.dump_text.specs.Parts.{longest, goes_on, lines_of, Puts, Passes};
 ghost use Rattle.dump_text.specs.Whole.{dumped, filled, laid_at, Lays};
 
-use reel::{Cursor, Step};
+use reel::Cursor;
 use refusal::Refusal;
 
 // The longest line is that of kind 6 with every bit set, at an index of twenty digits: proofs/Longest.antt.
@@ -150,6 +150,7 @@ fn goes_on(room: usize, index: u64) -> bool
 
 // Puts the lines of the frames that `input` begins with at the start of `out`, from an index on. A frame that the input ends in is left for the
 // next pass if more input is to come, and else prints as cut. Where `out` has no room for a line, nothing more is used.
+#[tactic(auto, using(reel::proofs::Found::found_steps))]
 pub fn pass(index: u64, input: &[u8], more: bool, out: &mut [u8]) -> Passed
     ensures passes { Passes (lines_of more (length out.old) index (unreel input.now)) out.old result out.new }
     ensures used_in_bounds { (result.used ≤ length input.now) × (result.written ≤ length out.old) }
@@ -158,19 +159,14 @@ pub fn pass(index: u64, input: &[u8], more: bool, out: &mut [u8]) -> Passed
     let mut written: usize = 0;
     let mut next = index;
     while goes_on(out.len() - written, next) {
-        let step = cursor.step(input);
-        match step {
-            Step::Frame {
-                start,
-                end,
-                next: behind,
-            } => {
-                written = put_line(out, written, next, &input[start..end]);
-                cursor = behind;
+        match cursor.step(input) {
+            Ok(Some(found)) => {
+                written = put_line(out, written, next, &input[found.start..found.end]);
+                cursor = found.next;
                 next += 1;
             }
-            Step::End => break,
-            Step::Refused(why) => {
+            Ok(None) => break,
+            Err(why) => {
                 if more {
                     break;
                 }

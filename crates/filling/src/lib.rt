@@ -8,7 +8,7 @@ ghost use Rattle.contents.specs.Contents.{layout};
 ghost use Rattle.reel.specs.Reel.{unreel};
 ghost use Rattle.filling.specs.Filling.{appended_to, blanked, filled_by, has_room, sized_for};
 
-use reel::{Cursor, Step};
+use reel::Cursor;
 
 // The most frames that a header's count can say.
 const MOST_COUNTED: u8 = 255;
@@ -79,21 +79,15 @@ pub fn append(b: &mut [u8], slots: usize, slot: usize, frame: &[u8])
 }
 
 // The frames of a reel, one behind the other, in a blank book of a layout; one that has no slot or no room there is left out.
+#[tactic(auto, using(reel::proofs::Found::found_steps))]
 pub fn fill(b: &mut [u8], version: u8, slots: usize, reel: &[u8])
     ensures { b.new ≡ filled_by (layout version slots) (unreel reel.now).frames b.old }
 {
     blank(b, version, slots);
     let mut cursor = Cursor::new();
-    while cursor.at < reel.len() {
-        let step = cursor.step(reel);
-        match step {
-            Step::Frame { start, end, next } => {
-                let slot = settings::slot_of(&reel[start..end]);
-                append(b, slots, slot, &reel[start..end]);
-                cursor = next;
-            }
-            Step::End => return,
-            Step::Refused(_) => return,
-        }
+    while let Ok(Some(found)) = cursor.step(reel) {
+        let frame = &reel[found.start..found.end];
+        append(b, slots, settings::slot_of(frame), frame);
+        cursor = found.next;
     }
 }

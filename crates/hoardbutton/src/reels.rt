@@ -6,7 +6,8 @@ ghost use Rattle.dump_text.specs.Whole.{filled};
 ghost use Rattle.hoardbutton.specs.Reels.{step_c, text_c};
 
 use crate::answers::{HbAnswer, answered};
-use reel::{Cursor, Step};
+use reel::{Cursor, Framed};
+use refusal::Refusal;
 
 // The bounds of the next frame with the place behind it; or that the reel has ended; or a refusal.
 #[repr(C)]
@@ -19,25 +20,25 @@ pub struct HbStep {
     pub next: u64,
 }
 
-fn stepped(s: Step) -> HbStep
+fn stepped(s: Result<Option<Framed>, Refusal>) -> HbStep
     ensures { result ≡ step_c s }
 {
     match s {
-        Step::Frame { start, end, next } => HbStep {
+        Ok(Some(found)) => HbStep {
             refusal: 0,
             ended: 0,
-            start: start as u64,
-            end: end as u64,
-            next: next.at as u64,
+            start: found.start as u64,
+            end: found.end as u64,
+            next: found.next.at as u64,
         },
-        Step::End => HbStep {
+        Ok(None) => HbStep {
             refusal: 0,
             ended: 1,
             start: 0,
             end: 0,
             next: 0,
         },
-        Step::Refused(why) => HbStep {
+        Err(why) => HbStep {
             refusal: why.number(),
             ended: 0,
             start: 0,

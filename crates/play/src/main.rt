@@ -8,7 +8,6 @@ use arguments::Inputs;
 use book::Answer;
 use front::{Closed, Fetched, Front, Input};
 use playback::Cursor;
-use reel::Step;
 use std::fs::File;
 use std::io::Error;
 use std::rt::{Env, Files};
@@ -16,17 +15,14 @@ use std::rt::{Env, Files};
 // ---- a report
 
 // A line for each frame of a reel.
+#[tactic(auto, using(reel::proofs::Found::found_steps))]
 fn say_frames(front: &Front, reel: &[u8], line: &mut [u8]) -> Result<(), Closed> {
     let mut place = reel::Cursor::new();
     let mut index: u64 = 0;
-    while place.at < reel.len() {
-        let step = place.step(reel);
-        let Step::Frame { start, end, next } = step else {
-            return Ok(());
-        };
-        let n = report::frame(index, &reel[start..end], line);
+    while let Ok(Some(found)) = place.step(reel) {
+        let n = report::frame(index, &reel[found.start..found.end], line);
         front.say(&line[0..n])?;
-        place = next;
+        place = found.next;
         index += 1;
     }
     Ok(())

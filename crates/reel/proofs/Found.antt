@@ -11,10 +11,10 @@ use lib.ListN.{length, get_or, take, drop}
 use borrow.Author.Tests.{ltb-true, ltb-false, eqb-true, eqb-false, leb-true, leb-false}
 use Rattle.refusal.specs.declared.Refusal.{Refusal}
 use Rattle.refusal.specs.declared.Refusal.TheVariants.{ReelCut}
+use Rattle.std.specs.Prelude.{None, Some, Ok, Err}
 use Rattle.reel.specs.declared.Cursor.{Cursor}
-use Rattle.reel.specs.declared.Step.{Step}
-use Rattle.reel.specs.declared.Step.TheVariants.{Frame, End, Refused}
-use Rattle.reel.specs.Reel.{preceded, unreel, frame_at, step_at}
+use Rattle.reel.specs.declared.Framed.{Framed}
+use Rattle.reel.specs.Reel.{preceded, unreel, Step, frame_at, step_at}
 use Rattle.reel.proofs.Walks.{from_end, from-frame, from_cut}
 
 -- what the cases of an answer would be, were two of them one
@@ -43,7 +43,7 @@ module _ (reel : List ℕ) (at : ℕ) where
 
   -- the step as its three tests pick it
   abbrev picked : Bool → Bool → Bool → Step
-  picked past end fits = cond past (Refused ReelCut) (cond end End (cond fits (frame_at at b) (Refused ReelCut)))
+  picked past end fits = cond past (Err ReelCut) (cond end (Ok None) (cond fits (frame_at at b) (Err ReelCut)))
 
   whole-at : at < length reel → b ≤ length reel - (at + 1) → Whole reel at (at + 1) (at + 1 + b) (record { at = at + 1 + b })
   whole-at h k =
@@ -56,43 +56,58 @@ module _ (reel : List ℕ) (at : ℕ) where
         made = from-frame reel at h b refl k ∙ ap (λ (n : ℕ). preceded (take n (drop (at + 1) reel)) (unreel (drop (at + 1 + b) reel))) long;
       }
 
-  pub step-whole : (start end : ℕ) (next : Cursor) → step_at reel at ≡ Frame start end next → Whole reel at start end next
+  pub step-whole : (f : Framed) → step_at reel at ≡ Ok (Some f) → Whole reel at f.start f.end f.next
   unfolding step_at
-  step-whole start end next e =
+  step-whole f e =
       by (ltb (length reel) at) refl (eqb (length reel) at) refl (leb b (length reel - (at + 1))) refl e
     where
       by : (x : Bool) → ltb (length reel) at ≡ x → (y : Bool) → eqb (length reel) at ≡ y → (z : Bool) → leb b (length reel - (at + 1)) ≡ z
-          → picked x y z ≡ Frame start end next → Whole reel at start end next
+          → picked x y z ≡ Ok (Some f) → Whole reel at f.start f.end f.next
       by true p y q z r e = absurd (apart (cc))
       by false p true q z r e = absurd (apart (cc))
       by false p false q false r e = absurd (apart (cc))
       by false p false q true r e =
-          let x : at + 1 ≡ start = cc in
-          let y : at + 1 + b ≡ end = cc in
-          let z : record { at = at + 1 + b } ≡ next = cc in
-          rw (← x, ← y, ← z) (whole-at (omega (arith, ltb-false, eqb-false (length reel) at q)) (leb-true b (length reel - (at + 1)) r))
+          let x : record { start = at + 1; end = at + 1 + b; next = record { at = at + 1 + b } } ≡ f = cc in
+          rw (← x) (whole-at (omega (arith, ltb-false, eqb-false (length reel) at q)) (leb-true b (length reel - (at + 1)) r))
 
-  pub step-ended : step_at reel at ≡ End → Ended reel at
+  pub step-ended : step_at reel at ≡ Ok None → Ended reel at
   unfolding step_at
   step-ended e = by (ltb (length reel) at) refl (eqb (length reel) at) refl (leb b (length reel - (at + 1))) refl e
     where
       by : (x : Bool) → ltb (length reel) at ≡ x → (y : Bool) → eqb (length reel) at ≡ y → (z : Bool) → leb b (length reel - (at + 1)) ≡ z
-          → picked x y z ≡ End → Ended reel at
+          → picked x y z ≡ Ok None → Ended reel at
       by true p y q z r e = absurd (apart (cc))
       by false p true q z r e =
           let here : length reel ≡ at = eqb-true (length reel) at q in record { here = here; made = from_end reel at here }
       by false p false q false r e = absurd (apart (cc))
       by false p false q true r e = absurd (apart (cc))
 
-  pub step-refused : at ≤ length reel → (why : Refusal) → step_at reel at ≡ Refused why → Cut reel at why
+  pub step-refused : at ≤ length reel → (why : Refusal) → step_at reel at ≡ Err why → Cut reel at why
   unfolding step_at
   step-refused h why e = by (ltb (length reel) at) refl (eqb (length reel) at) refl (leb b (length reel - (at + 1))) refl e
     where
       by : (x : Bool) → ltb (length reel) at ≡ x → (y : Bool) → eqb (length reel) at ≡ y → (z : Bool) → leb b (length reel - (at + 1)) ≡ z
-          → picked x y z ≡ Refused why → Cut reel at why
+          → picked x y z ≡ Err why → Cut reel at why
       by true p y q z r e = absurd (let past : length reel < at = ltb-true (length reel) at p in omega arith)
       by false p true q z r e = absurd (apart (cc))
       by false p false q false r e =
           let inside : at < length reel = omega (arith, eqb-false (length reel) at q) in
           record { cut = cc; inside = inside; made = from_cut reel at inside (leb-false b (length reel - (at + 1)) r) }
       by false p false q true r e = absurd (apart (cc))
+
+-- ---- what the check is told of a frame that a step finds
+
+module _ (reel : List ℕ) (at : ℕ) (f : Framed) (e : step_at reel at ≡ Ok (Some f)) where
+  pub found-forward : f.start ≤ f.end
+  found-forward = (step-whole reel at f e).forward
+
+  pub found-inside : f.end ≤ length reel
+  found-inside = (step-whole reel at f e).inside
+
+  pub found-onward : at < f.next.at
+  found-onward = let w = step-whole reel at f e in omega (arith, w.behind, w.forward, w.onward)
+
+  pub found-next : f.next.at ≡ f.end
+  found-next = (step-whole reel at f e).onward
+
+pub ruleset found_steps = (found-forward, found-inside, found-onward, found-next)

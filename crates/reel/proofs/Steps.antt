@@ -7,15 +7,15 @@ use native.Mathlib.Omega.{arith}
 use lib.ListN.{length, get_or}
 use borrow.Author.Tests.{lt-ltb, le-ltb, eq-eqb, ne_eqb, le-leb, lt-leb}
 use Rattle.refusal.specs.declared.Refusal.TheVariants.{ReelCut}
-use Rattle.reel.specs.declared.Step.TheVariants.{End, Refused}
+use Rattle.std.specs.Prelude.{None, Ok, Err}
 use Rattle.reel.specs.Reel.{frame_at, step_at}
 
 module _ (reel : List ℕ) (at : ℕ) where
-  pub step_past : length reel < at → step_at reel at ≡ Refused ReelCut
+  pub step_past : length reel < at → step_at reel at ≡ Err ReelCut
   unfolding step_at
   step_past h = simp (lt-ltb (length reel) at h)
 
-  pub step_end : length reel ≡ at → step_at reel at ≡ End
+  pub step_end : length reel ≡ at → step_at reel at ≡ Ok None
   unfolding step_at
   step_end e = simp (le-ltb (length reel) at (omega arith), eq-eqb (length reel) at e)
 
@@ -32,7 +32,7 @@ module _ (reel : List ℕ) (at : ℕ) where
           le-leb (get_or reel at 0) (length reel - (at + 1)) (omega arith),
         ) (ap (frame_at at) (sym e))
 
-    pub step_cut : (b : ℕ) → b ≡ get_or reel at 0 → length reel - (at + 1) < b → step_at reel at ≡ Refused ReelCut
+    pub step_cut : (b : ℕ) → b ≡ get_or reel at 0 → length reel - (at + 1) < b → step_at reel at ≡ Err ReelCut
     unfolding step_at
     step_cut b e h =
         simp (

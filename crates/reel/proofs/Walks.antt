@@ -11,9 +11,8 @@ use lib.Dec.{leb, ltb}
 use lib.ListN.{length, get_or, take, drop, length-drop, drop_of_length-le}
 use lib.Seq.{drop-cons, drop-drop}
 use borrow.Author.Tests.{leb-true, leb-false, ltb-true, ltb-false}
-use Rattle.reel.specs.declared.Step.{Step}
-use Rattle.reel.specs.declared.Step.TheVariants.{End}
-use Rattle.reel.specs.Reel.{reel_of, Unreeled, preceded, unreel, step_at, Walked, met, onward, walk, last_of}
+use Rattle.std.specs.Prelude.{None, Ok}
+use Rattle.reel.specs.Reel.{reel_of, Unreeled, preceded, unreel, Step, step_at, Walked, met, onward, walk, last_of}
 use Rattle.reel.proofs.Steps.{step_end, step-frame, step_cut}
 use Rattle.reel.proofs.Reels.{unreel-nil, unreel-frame, unreel-cut, reel-whole, reel-cut}
 
@@ -77,7 +76,7 @@ walk-unreel (suc n) reel at h k =
         turn-frame reel at (λ p. walk n reel p) inside (get_or reel at 0) refl fits (ih (at + 1 + get_or reel at 0) (omega arith) (omega arith))
 
 -- from the start
-pub walk-whole : (fs : List (List ℕ)) → walk (length (reel_of fs)) (reel_of fs) 0 ≡ record { found = fs; last = End }
+pub walk-whole : (fs : List (List ℕ)) → walk (length (reel_of fs)) (reel_of fs) 0 ≡ record { found = fs; last = Ok None }
 walk-whole fs = walk-unreel (length (reel_of fs)) (reel_of fs) 0 (omega arith) (omega arith) ∙ ap walked (reel-whole fs)
 
 pub walk-cut : (fs : List (List ℕ)) (b : ℕ) (s : List ℕ) → length s < b

@@ -1,9 +1,9 @@
 -- The reel: how frames make one, what a reel is made of, and what a step at a place finds (REFERENCE, "Reel").
 -- Assumes nothing.
-use Rattle.std.specs.Prelude.{ℕ, zero, suc, ◌+◌, ◌-◌, cond, List, [], ◌∷◌, ◌++◌, ltb, eqb, leb, length, get_or, take, drop}
+use Rattle.std.specs.Prelude.{ℕ, zero, suc, ◌+◌, ◌-◌, cond, List, [], ◌∷◌, ◌++◌, ltb, eqb, leb, length, get_or, take, drop, Option, None, Some, Result, Ok, Err}
+use Rattle.refusal.specs.declared.Refusal.{Refusal}
 use Rattle.refusal.specs.declared.Refusal.TheVariants.{ReelCut}
-use Rattle.reel.specs.declared.Step.{Step}
-use Rattle.reel.specs.declared.Step.TheVariants.{Frame, End, Refused}
+use Rattle.reel.specs.declared.Framed.{Framed}
 
 -- ---- from frames to a reel and back
 
@@ -33,18 +33,22 @@ unreel s = unreel_by (length s) s
 
 -- ---- a step
 
+-- what a step finds: a frame, nothing at the end, or why there is no frame
+abbrev pub Step : Type 0
+Step = Result (Option Framed) Refusal
+
 -- the frame of b bytes behind a length byte
 abbrev pub frame_at : ℕ → ℕ → Step
-frame_at at b = Frame (at + 1) (at + 1 + b) (record { at = at + 1 + b })
+frame_at at b = Ok (Some (record { start = at + 1; end = at + 1 + b; next = record { at = at + 1 + b } }))
 
 -- A step takes a place and hands the next one back. Where the place is the length the reel has ended; where it is past that, or the bytes left
 -- are fewer than the length byte says, the step is refused (REFERENCE, "Refusals").
 unfoldable pub step_at : List ℕ → ℕ → Step
 step_at reel at =
-    cond (ltb (length reel) at) (Refused ReelCut)
-    (cond (eqb (length reel) at) End
+    cond (ltb (length reel) at) (Err ReelCut)
+    (cond (eqb (length reel) at) (Ok None)
     (cond (leb (get_or reel at 0) (length reel - (at + 1))) (frame_at at (get_or reel at 0))
-    (Refused ReelCut)))
+    (Err ReelCut)))
 
 -- ---- stepping on and on
 
@@ -58,9 +62,9 @@ met f w = record { found = f ∷ w.found; last = w.last }
 
 -- a step, and behind a frame what is found from the next place on
 abbrev pub onward : List ℕ → (ℕ → Walked) → Step → Walked
-onward reel walkOn (Frame start end next) = met (take (end - start) (drop start reel)) (walkOn next.at)
-onward reel walkOn End = record { found = []; last = End }
-onward reel walkOn (Refused why) = record { found = []; last = Refused why }
+onward reel walkOn (Ok (Some f)) = met (take (f.end - f.start) (drop f.start reel)) (walkOn f.next.at)
+onward reel walkOn (Ok None) = record { found = []; last = Ok None }
+onward reel walkOn (Err why) = record { found = []; last = Err why }
 
 -- what n steps find, and one more
 unfoldable pub walk : ℕ → List ℕ → ℕ → Walked
@@ -69,5 +73,5 @@ walk (suc n) reel at = onward reel (λ p. walk n reel p) (step_at reel at)
 
 -- the step behind the frames: the end, where nothing is left, and else refusal 14
 abbrev pub last_of : List ℕ → Step
-last_of [] = End
-last_of (b ∷ s) = Refused ReelCut
+last_of [] = Ok None
+last_of (b ∷ s) = Err ReelCut

@@ -13,16 +13,12 @@ pub struct Cursor {
     pub at: usize,
 }
 
-// What a step finds: the bounds of the next frame with the place behind it, the end, or why there is no frame.
+// A frame: its bounds in the reel, and the place behind it.
 #[derive(Clone, Copy, PartialEq, Eq, Debug)]
-pub enum Step {
-    Frame {
-        start: usize,
-        end: usize,
-        next: Cursor,
-    },
-    End,
-    Refused(Refusal),
+pub struct Framed {
+    pub start: usize,
+    pub end: usize,
+    pub next: Cursor,
 }
 
 impl Cursor {
@@ -33,28 +29,28 @@ impl Cursor {
         Cursor { at: 0 }
     }
 
-    // A step that is refused hands back no place.
-    pub fn step(self, reel: &[u8]) -> Step
+    // The next frame, or none at the end. A step that is refused hands back no place.
+    pub fn step(self, reel: &[u8]) -> Result<Option<Framed>, Refusal>
         ensures { result ≡ step_at reel.now self.at }
     {
         let at = self.at;
         if reel.len() < at {
-            return Step::Refused(Refusal::ReelCut);
+            return Err(Refusal::ReelCut);
         }
         if reel.len() == at {
-            return Step::End;
+            return Ok(None);
         }
         let n = usize::from(reel[at]);
         let start = at + 1;
         if n <= reel.len() - start {
             let end = start + n;
-            Step::Frame {
+            Ok(Some(Framed {
                 start,
                 end,
                 next: Cursor { at: end },
-            }
+            }))
         } else {
-            Step::Refused(Refusal::ReelCut)
+            Err(Refusal::ReelCut)
         }
     }
 }

@@ -7,7 +7,7 @@ use Prim.Native.Nat.{ℕ, ◌+◌, ◌-◌, ◌<◌, ◌≤◌}
 use native.Mathlib.Omega.{arith}
 use borrow.Author.Tests.{le-leb, lt-leb}
 use lib.Dec.{leb}
-use lib.ListN.{drop, drop_of_length-le, length, length-drop, take}
+use lib.ListN.{drop, length, length-drop, take}
 use lib.Seq.{length-take-le, take-append_seam, take-length, take-paste}
 use Rattle.refusal.specs.declared.Refusal.TheVariants.{OutputShort}
 use Rattle.settings.specs.Settings.{slot_of}
@@ -15,7 +15,7 @@ use Rattle.spans.specs.Spans.{written}
 use Rattle.spans.proofs.Spans.{written-fits}
 use Rattle.reel.specs.declared.Cursor.{Cursor}
 use Rattle.reel.specs.Reel.{Unreeled, reel_of, unreel}
-use Rattle.reel.proofs.Reels.{reel-again, unreel-nil}
+use Rattle.reel.proofs.Reels.{reel-again}
 use Rattle.reel.proofs.Found.{Whole}
 use Rattle.std.specs.Prelude.{Ok, Err}
 use Rattle.sides.specs.Parts.{chosen}
@@ -68,9 +68,6 @@ pub picked_none : (q : ℕ → Bool) (s : List ℕ) (at : ℕ) (r : List ℕ) �
 unfolding picked reel_of chosen
 picked_none q s at r e = ap (λ (x : Unreeled). reel_of (chosen q x.frames)) e
 
-pub picked-end : (q : ℕ → Bool) (s : List ℕ) (at : ℕ) → length s ≤ at → picked q (drop at s) ≡ []
-picked-end q s at h = picked_none q s at [] (ap unreel (drop_of_length-le s h) ∙ unreel-nil)
-
 -- ---- what stands in the output
 
 -- the bytes that were picked before a place stand at its front
@@ -86,6 +83,10 @@ module _ (q : ℕ → Bool) (s out : List ℕ) (w at : ℕ) (P : Picked q s out 
   -- where nothing more is picked
   pub pick-stop : picked q (drop at s) ≡ [] → take w out ≡ picked q s
   pick-stop e = sym (P.text ∙ ap (λ (x : List ℕ). take w out ++ x) e ∙ append-nil (take w out))
+
+  -- where the reel has no frame left
+  pub pick-over : (r : List ℕ) → unreel (drop at s) ≡ record { frames = []; rest = r } → (take w out ≡ picked q s) × (w ≤ length s)
+  pick-over r e = (pick-stop (picked_none q s at r e), omega (arith, P.behind, P.within))
 
   module _ (room : length s ≤ length out) (start end : ℕ) (next : Cursor) (W : Whole s at start end next) where
     pub piece-fits : w + length (piece_of s at end) ≤ length out

@@ -17,7 +17,7 @@ ghost use Rattle.sides.specs.Means.{emptied_bytes, may_read, picked, Retold, wei
 
 use book::Answer;
 use owners::owner_of;
-use reel::{Cursor, Step};
+use reel::Cursor;
 use refusal::Refusal;
 use settings::{size_of, slot_for};
 
@@ -283,24 +283,17 @@ fn copied(owners: &[u8], side: u64, slot: usize, piece: &[u8], out: &mut [u8], w
 }
 
 // The side's frames of a reel, as a reel at the front of the output; says how many bytes it has.
+#[tactic(auto, using(reel::proofs::Found::found_steps))]
 fn pick(owners: &[u8], side: u64, reel: &[u8], out: &mut [u8]) -> usize
     requires { length reel.now ≤ length out.old }
     ensures { (take result out.new ≡ picked (owns owners.now side) reel.now) × (result ≤ length reel.now) }
 {
     let mut w: usize = 0;
     let mut cursor = Cursor::new();
-    while cursor.at < reel.len() {
-        let at = cursor.at;
-        let step = cursor.step(reel);
-        match step {
-            Step::Frame { start, end, next } => {
-                let slot = settings::slot_of(&reel[start..end]);
-                w = copied(owners, side, slot, &reel[at..end], out, w);
-                cursor = next;
-            }
-            Step::End => return w,
-            Step::Refused(_) => return w,
-        }
+    while let Ok(Some(found)) = cursor.step(reel) {
+        let slot = settings::slot_of(&reel[found.start..found.end]);
+        w = copied(owners, side, slot, &reel[cursor.at..found.end], out, w);
+        cursor = found.next;
     }
     w
 }

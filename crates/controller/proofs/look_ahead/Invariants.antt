@@ -4,8 +4,8 @@ use lib.ListN.{length}
 use Rattle.controller.proofs.Walking.{Seeking}
 use Rattle.controller.proofs.look_ahead.Given as goal
 
-abbrev pub invariant-loop-cursor : goal.invariant-loop-cursor
-invariant-loop-cursor l = Seeking l.reel l.sent l.cursor.at l.left
+abbrev pub invariant-loop-found : goal.invariant-loop-found
+invariant-loop-found l = Seeking l.reel l.sent l.cursor.at l.left
 
-abbrev pub decreases-loop-cursor : goal.decreases-loop-cursor
-decreases-loop-cursor l = length l.reel - l.cursor.at
+abbrev pub decreases-loop-found : goal.decreases-loop-found
+decreases-loop-found l = length l.reel - l.cursor.at

@@ -5,8 +5,8 @@ use lib.ListN.{length}
 use Rattle.dump_text.proofs.Passing.{Going}
 use Rattle.dump_text.proofs.pass.Given as goal
 
-abbrev pub invariant-loop-step : goal.invariant-loop-step
-invariant-loop-step l = Going l.more l.index l.input l.initial.out l.cursor.at l.written l.next l.out
+abbrev pub invariant-loop-cursor : goal.invariant-loop-cursor
+invariant-loop-cursor l = Going l.more l.index l.input l.initial.out l.cursor.at l.written l.next l.out
 
-abbrev pub decreases-loop-step : goal.decreases-loop-step
-decreases-loop-step l = length l.input - l.cursor.at
+abbrev pub decreases-loop-cursor : goal.decreases-loop-cursor
+decreases-loop-cursor l = length l.input - l.cursor.at

@@ -2,8 +2,8 @@
 use Rattle.std.proofs.Common.{◌≡◌, ◌-◌, ◌≤◌, length}
 use Rattle.play.proofs.say_frames.Given as goal
 
-abbrev pub invariant-loop-place : goal.invariant-loop-place
-invariant-loop-place l = (l.index ≤ l.place.at) × (l.place.at ≤ length l.reel) × (length l.line ≡ length l.fn.line)
+abbrev pub invariant-loop-found : goal.invariant-loop-found
+invariant-loop-found l = (l.index ≤ l.place.at) × (l.place.at ≤ length l.reel) × (length l.line ≡ length l.fn.line)
 
-abbrev pub decreases-loop-place : goal.decreases-loop-place
-decreases-loop-place l = length l.reel - l.place.at
+abbrev pub decreases-loop-found : goal.decreases-loop-found
+decreases-loop-found l = length l.reel - l.place.at

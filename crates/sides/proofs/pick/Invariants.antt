@@ -5,8 +5,8 @@ use Rattle.owners.specs.Owners.{owns}
 use Rattle.sides.proofs.Picking.{Picked}
 use Rattle.sides.proofs.pick.Given as goal
 
-abbrev pub invariant-loop-cursor : goal.invariant-loop-cursor
-invariant-loop-cursor l = (length l.out ≡ length l.initial.out) × Picked (owns l.owners l.side) l.reel l.out l.w l.cursor.at
+abbrev pub invariant-loop-found : goal.invariant-loop-found
+invariant-loop-found l = (length l.out ≡ length l.initial.out) × Picked (owns l.owners l.side) l.reel l.out l.w l.cursor.at
 
-abbrev pub decreases-loop-cursor : goal.decreases-loop-cursor
-decreases-loop-cursor l = length l.reel - l.cursor.at
+abbrev pub decreases-loop-found : goal.decreases-loop-found
+decreases-loop-found l = length l.reel - l.cursor.at
