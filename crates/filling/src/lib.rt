@@ -87,7 +87,8 @@ pub fn fill(b: &mut [u8], version: u8, slots: usize, reel: &[u8])
     let mut cursor = Cursor::new();
     while let Ok(Some(found)) = cursor.step(reel) {
         let frame = &reel[found.start..found.end];
-        append(b, slots, settings::slot_of(frame), frame);
+        let slot = settings::slot_of(frame);
+        append(b, slots, slot, frame);
         cursor = found.next;
     }
 }

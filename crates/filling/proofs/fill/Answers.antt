@@ -9,7 +9,7 @@ pub loop-found-preserved : goal.loop-found-preserved
 loop-found-preserved c =
     let w = step-whole c.args.reel.now c.loop-found.cursor.at c.in-Ok-Some.found (cc) in (
       c.append.auto.b ∙ c.loop-found.invariant.0,
-      along-on _ _ _ _ _ c.loop-found.invariant.1 _ _ _ w _ c.slot_of.ensures _ c.append.ensures,
+      along-on _ _ _ _ _ c.loop-found.invariant.1 _ _ _ w _ c.slot_of-slot.ensures _ c.append.ensures,
     )
 
 pub returns-in_default : goal.returns-in_default
