@@ -1,6 +1,7 @@
 -- What a line of a list of banks is, and what it says (REFERENCE, "Widths for banks").
 -- Assumes nothing.
-use Rattle.std.specs.Prelude.{ℕ, suc, ◌+◌, ◌*◌, ◌-◌, ◌^◌, Bool, cond, not, ◌&&◌, ◌||◌, List, [], ◌∷◌, eqb, leb, ltb, length, get_or, take, drop, Option, Some, None, Result, Ok, Err}
+use Rattle.std.specs.Prelude.{ℕ, suc, ◌+◌, ◌*◌, ◌-◌, ◌^◌, Bool, cond, not, ◌&&◌, ◌||◌, List, [], ◌∷◌, eqb, leb, ltb, length, get_or, take, drop}
+use Rattle.std.specs.Prelude.{Option, Some, None, Result, Ok, Err}
 use Rattle.bank_list.specs.declared.Fault.{Fault}
 use Rattle.bank_list.specs.declared.Fault.TheVariants.{NotABank, NeedPast, CodePast}
 use Rattle.bank_list.specs.declared.Bank.{Bank}

@@ -2,9 +2,10 @@
 -- Assumes nothing.
 use mathlib.Core.Path.{◌≡◌, refl, sym, ap, ◌∙◌}
 use mathlib.Core.List.{List}
-use Prim.Native.Nat.{ℕ, ◌+◌, ◌<◌, ◌≤◌}
+use Prim.Native.Nat.{ℕ, ◌+◌, ◌^◌, ◌<◌, ◌≤◌}
 use native.Mathlib.Omega.{arith}
-use Rattle.std.specs.Prelude.{Result, Ok, Err}
+use Rattle.std.specs.Prelude.{Option, Some, None, Result, Ok, Err}
+use Rattle.std.specs.Option.{SomeIff, unwrap_or}
 use lib.ListN.{take}
 use borrow.Author.Tests.{le-leb, lt-leb, lt-ltb, le-ltb}
 use Rattle.table.specs.Table.{settings}
@@ -31,6 +32,11 @@ plus-fits count n h = rw (le-leb (count + n) most h) refl
 pub plus-stays : (count n : ℕ) → most < count + n → plus count n ≡ count
 unfolding plus
 plus-stays count n h = rw (lt-leb (count + n) most h) refl
+
+-- as the source adds
+pub plus-checked : (count n : ℕ) (r : Option ℕ) → SomeIff r (count + n < 2 ^ 64) (count + n) → unwrap_or r count ≡ plus count n
+plus-checked count n None h = sym (plus-stays count n (omega (arith, h)))
+plus-checked count n (Some x) h = h.1 ∙ sym (plus-fits count n (omega (arith, h.0)))
 
 -- ---- puts
 

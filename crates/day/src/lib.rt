@@ -49,11 +49,7 @@ pub fn fresh() -> Day
 fn plus(count: u64, n: u64) -> u64
     ensures { result ≡ plus count n }
 {
-    if n <= u64::MAX - count {
-        count + n
-    } else {
-        count
-    }
+    count.checked_add(n).unwrap_or(count)
 }
 
 // ---- answers
@@ -137,12 +133,6 @@ pub fn receive(day: Day, bytes: &[u8]) -> Day
 
 // ---- commands
 
-fn wide(x: u32) -> usize
-    ensures { result ≡ x }
-{
-    x as usize
-}
-
 // A command of this kind that is not put: an action.
 fn note(day: Day, kind: u64) -> Day
     ensures { result ≡ noted kind day }
@@ -163,7 +153,7 @@ fn tally(day: Day, kind: u64, answer: Answer) -> Day
             next.accepted = plus(day.accepted, 1);
         }
         Err(why) => {
-            let n = wide(why.number());
+            let n = why.number() as usize;
             if n < 9 {
                 let mut refused = day.refused;
                 refused[n] = plus(refused[n], 1);

@@ -9,6 +9,7 @@ use lib.Dec.{ltb}
 use lib.ListN.{length, take, drop, get_or, length-drop, drop_of_length-le}
 use lib.Seq.{drop-drop, get_or-drop}
 use borrow.Author.Tests.{eq-eqb, ne_eqb}
+use Rattle.std.specs.Prelude.{None, Some}
 use Rattle.day.specs.declared.Day.{Day}
 use Rattle.day.specs.Days.{on_received}
 use Rattle.day.specs.Steps.{Record, sent_bytes, sent_day, step_bytes, step_day}
@@ -17,11 +18,11 @@ use Rattle.playback.specs.Parts.{hopeless}
 use Rattle.playback.specs.Code.{size_in}
 use Rattle.playback.proofs.Found.{Fits, fits-true, true-fits}
 
-not-fits : (s : List ℕ) → (Fits s → ⊥) → 0 ≡ size_in s
+not-fits : (s : List ℕ) → (Fits s → ⊥) → None ≡ size_in s
 unfolding size_in
 not-fits s n = go (fits s) refl
   where
-    go : (x : Bool) → fits s ≡ x → 0 ≡ cond x (size_at s) 0
+    go : (x : Bool) → fits s ≡ x → None ≡ cond x (Some (size_at s)) None
     go true e = absurd (n (fits-true s e))
     go false e = refl
 
@@ -34,40 +35,40 @@ module _ (t : List ℕ) (i : ℕ) where
 
   -- ---- its size
 
-  pub size-short : length t - i < 2 → 0 ≡ size_in (drop i t)
+  pub size-short : length t - i < 2 → None ≡ size_in (drop i t)
   size-short h = not-fits (drop i t) (λ f. omega (arith, h, f.whole, length-drop i t))
 
-  pub size-unknown : 1 < get_or t i 0 → 0 ≡ size_in (drop i t)
+  pub size-unknown : 1 < get_or t i 0 → None ≡ size_in (drop i t)
   size-unknown h = not-fits (drop i t) (λ f. omega (arith, h, f.known, zeroth))
 
-  pub size-cut : length t - i < get_or t (i + 1) 0 + 2 → 0 ≡ size_in (drop i t)
+  pub size-cut : length t - i < get_or t (i + 1) 0 + 2 → None ≡ size_in (drop i t)
   size-cut h = not-fits (drop i t) (λ f. omega (arith, h, f.whole, first, length-drop i t))
 
-  pub size-whole : get_or t i 0 ≤ 1 → get_or t (i + 1) 0 + 2 ≤ length t - i → get_or t (i + 1) 0 + 2 ≡ size_in (drop i t)
+  pub size-whole : get_or t i 0 ≤ 1 → get_or t (i + 1) 0 + 2 ≤ length t - i → Some (get_or t (i + 1) 0 + 2) ≡ size_in (drop i t)
   unfolding size_in
   size-whole k h =
       let f : fits (drop i t) ≡ true =
       true-fits (drop i t) (record { known = omega (arith, k, zeroth); whole = omega (arith, h, first, length-drop i t) })
       in
       let e : get_or t (i + 1) 0 + 2 ≡ size_at (drop i t) = omega (arith, first) in
-      rw f e
+      rw f (ap (λ (n : ℕ). Some n) e)
 
-  -- a size above 0 is that of a record that fits
-  pub size_fits : (n : ℕ) → n ≡ size_in (drop i t) → 0 < n → (fits (drop i t) ≡ true) × (n ≡ size_at (drop i t)) × (i + n ≤ length t)
+  -- a size is that of a record that fits
+  pub size_fits : (n : ℕ) → Some n ≡ size_in (drop i t) → (fits (drop i t) ≡ true) × (n ≡ size_at (drop i t)) × (i + n ≤ length t)
   unfolding size_in
-  size_fits n e h = go (fits (drop i t)) refl e
+  size_fits n e = go (fits (drop i t)) refl e
     where
-      go : (x : Bool) → fits (drop i t) ≡ x → n ≡ cond x (size_at (drop i t)) 0
+      go : (x : Bool) → fits (drop i t) ≡ x → Some n ≡ cond x (Some (size_at (drop i t))) None
           → (fits (drop i t) ≡ true) × (n ≡ size_at (drop i t)) × (i + n ≤ length t)
-      go true f k = (f, k, omega (arith, k, (fits-true (drop i t) f).whole, length-drop i t))
-      go false f k = absurd (omega (arith, k, h))
+      go true f k = let l : n ≡ size_at (drop i t) = cc in (f, l, omega (arith, l, (fits-true (drop i t) f).whole, length-drop i t))
+      go false f k = absurd (cc)
 
-  pub size_none : (n : ℕ) → n ≡ size_in (drop i t) → n ≡ 0 → fits (drop i t) ≡ false
+  pub size_none : None ≡ size_in (drop i t) → fits (drop i t) ≡ false
   unfolding size_in
-  size_none n e h = go (fits (drop i t)) refl e
+  size_none e = go (fits (drop i t)) refl e
     where
-      go : (x : Bool) → fits (drop i t) ≡ x → n ≡ cond x (size_at (drop i t)) 0 → fits (drop i t) ≡ false
-      go true f k = absurd (omega (arith, k, h))
+      go : (x : Bool) → fits (drop i t) ≡ x → None ≡ cond x (Some (size_at (drop i t))) None → fits (drop i t) ≡ false
+      go true f k = absurd (cc)
       go false f k = f
 
   -- ---- whether it can still become one

@@ -1,6 +1,6 @@
 -- What the private functions of a pass say: the list that a sound book holds, and a pass as it is handed over.
 -- Assumes nothing.
-use Rattle.std.specs.Prelude.{ℕ, ◌≡◌, Bool, cond, List, [], length, drop}
+use Rattle.std.specs.Prelude.{ℕ, ◌≡◌, Bool, cond, List, [], length, drop, Option, Some, None}
 use Rattle.contents.specs.Contents.{Contents, Layout, holds, image, refused}
 use Rattle.book.specs.Book.{Edit, layout_in, opened_for, room_in}
 use Rattle.day.specs.declared.Day.{Day}
@@ -10,9 +10,9 @@ use Rattle.playback.specs.Trace.{fits, size_at}
 use Rattle.playback.specs.Parts.{Went, pass_gap, pass_header, pass_records, went}
 use Rattle.playback.specs.Parts as parts
 
--- how many bytes a record in front takes; 0 where none fits
-unfoldable pub size_in : List ℕ → ℕ
-size_in s = cond (fits s) (size_at s) 0
+-- how many bytes a record in front takes, where one fits
+unfoldable pub size_in : List ℕ → Option ℕ
+size_in s = cond (fits s) (Some (size_at s)) None
 
 -- the list of a book that is sound
 abbrev pub frames_in : Contents → List (List ℕ)

@@ -62,14 +62,9 @@ pub fn start() -> Cursor
 pub fn is_over(cursor: Cursor) -> bool
     ensures { result ≡ is_over cursor.stage }
 {
-    let stage = cursor.stage;
-    match stage {
+    match cursor.stage {
         Stage::Header => false,
-        Stage::Records {
-            left,
-            skip: _,
-            at: _,
-        } => left == 0,
+        Stage::Records { left, .. } => left == 0,
         Stage::Stopped(_) => true,
     }
 }
@@ -79,19 +74,13 @@ pub fn is_over(cursor: Cursor) -> bool
 pub fn end(cursor: Cursor) -> Played
     ensures { result ≡ ended cursor }
 {
-    let day = cursor.day;
-    let stage = cursor.stage;
-    match stage {
-        Stage::Header => Played { answer: Ok(0), day },
-        Stage::Records {
-            left: _,
-            skip: _,
-            at: _,
-        } => Played { answer: Ok(0), day },
-        Stage::Stopped(at) => Played {
-            answer: Err(Refusal::TraceFault(at)),
-            day,
-        },
+    let answer = match cursor.stage {
+        Stage::Header | Stage::Records { .. } => Ok(0),
+        Stage::Stopped(at) => Err(Refusal::TraceFault(at)),
+    };
+    Played {
+        answer,
+        day: cursor.day,
     }
 }
 
@@ -101,44 +90,26 @@ pub fn end(cursor: Cursor) -> Played
 fn onward(at: usize, n: usize) -> usize
     ensures { result ≡ plus at n }
 {
-    if n <= usize::MAX - at { at + n } else { at }
+    at.checked_add(n).unwrap_or(at)
 }
 
-fn wide(x: u8) -> usize
-    ensures { (result ≡ x) × (result < 256) }
-{
-    x as usize
-}
-
-// How many bytes the record at a place takes; 0 where none fits.
-fn size_at(part: &[u8], i: usize) -> usize
+// How many bytes the record at a place takes, where one fits.
+fn size_at(part: &[u8], i: usize) -> Option<usize>
     ensures { result ≡ size_in (drop i part.now) }
 {
-    if part.len() <= i {
-        return 0;
+    let left = part.len().saturating_sub(i);
+    if left < 2 || part[i] > 1 {
+        return None;
     }
-    let left = part.len() - i;
-    if left < 2 {
-        return 0;
-    }
-    if part[i] > 1 {
-        return 0;
-    }
-    let n = wide(part[i + 1]) + 2;
-    if n <= left { n } else { 0 }
+    let n = usize::from(part[i + 1]) + 2;
+    if n <= left { Some(n) } else { None }
 }
 
 // Whether what stands at a place, and is no whole record, never will be one.
 fn is_hopeless(part: &[u8], i: usize, more: bool) -> bool
     ensures { result ≡ hopeless more (drop i part.now) }
 {
-    if more {
-        if i < part.len() {
-            return part[i] > 1;
-        }
-        return false;
-    }
-    true
+    !more || (i < part.len() && part[i] > 1)
 }
 
 // One record, that fits.
@@ -184,13 +155,12 @@ fn play_records(
     let mut at = offset;
     let mut left = count;
     while left > 0 {
-        let n = size_at(part, i);
-        if n == 0 {
+        let Some(n) = size_at(part, i) else {
             if is_hopeless(part, i, more) {
                 return halt(i, Stage::Stopped(at), day);
             }
             return halt(i, Stage::Records { left, skip: 0, at }, day);
-        }
+        };
         let next = turn(day, book, part, i, i + n);
         day = next;
         at = onward(at, n);

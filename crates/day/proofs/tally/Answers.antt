@@ -1,4 +1,4 @@
-use mathlib.Core.Path.{refl, ◌∙◌}
+use mathlib.Core.Path.{refl}
 use native.Mathlib.Omega.{arith}
 use Rattle.day.specs.Days.{bumped, noted, accepted_one, refused_one}
 use Rattle.day.proofs.Days.{tally-counted}
@@ -13,4 +13,4 @@ unfolding refused_one bumped noted
 returns-then-n-lt9 c =
     rw (c.plus-then-n-lt9.ensures, c.note-next.ensures)
     (tally-counted _ _ _ _ c.in-Err.is _
-    (c.wide-n.ensures ∙ c.number.ensures) (omega arith))
+    c.number-n.ensures (omega arith))

@@ -1,5 +1,4 @@
 use native.Mathlib.Omega.{arith}
-use borrow.Author.Rules.{rules}
 use Rattle.playback.proofs.Playing.{play-made, play-refused}
 use Rattle.playback.proofs.play.Goals as goal
 

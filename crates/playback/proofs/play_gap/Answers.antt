@@ -1,5 +1,4 @@
 use native.Mathlib.Omega.{arith}
-use borrow.Author.Rules.{rules}
 use Rattle.playback.proofs.Running.{comes-same, comes-still, gap_ends, gap-passed, gap-waits}
 use Rattle.playback.proofs.play_gap.Goals as goal
 

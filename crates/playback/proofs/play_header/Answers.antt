@@ -1,5 +1,4 @@
 use native.Mathlib.Omega.{arith}
-use borrow.Author.Rules.{rules}
 use Rattle.playback.proofs.Running.{comes-same, comes-still, header-low, header-passed, header-short, header-waits}
 use Rattle.playback.proofs.play_header.Goals as goal
 

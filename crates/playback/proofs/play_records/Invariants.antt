@@ -1,13 +1,9 @@
-use mathlib.Core.Path.{◌≡◌, ap, refl, sym, ◌∙◌}
-use native.Mathlib.Omega.{arith}
-use Prim.Native.Nat.{ℕ, ◌+◌}
+use mathlib.Core.Path.{◌≡◌}
 use lib.ListN.{length, drop}
-use borrow.Author.Rules.{rules}
 use Rattle.book.specs.Book.{layout_in, room_in}
 use Rattle.playback.specs.Parts.{after, pass_records}
 use Rattle.playback.specs.Code.{state_in}
-use Rattle.playback.proofs.Sizes.{size_fits, size_none}
-use Rattle.playback.proofs.Running.{Along, along-start, along-next, along-end, along-stop, along-wait}
+use Rattle.playback.proofs.Running.{Along}
 use Rattle.playback.proofs.play_records.Given as goal
 
 abbrev pub invariant-loop-left : goal.invariant-loop-left

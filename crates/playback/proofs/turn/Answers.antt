@@ -1,6 +1,5 @@
 use mathlib.Core.Path.{refl}
 use native.Mathlib.Omega.{arith}
-use borrow.Author.Rules.{rules}
 use Rattle.playback.proofs.Sizes.{turn-sent, turn-received}
 use Rattle.playback.proofs.turn.Goals as goal
 
