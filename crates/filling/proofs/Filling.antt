@@ -9,7 +9,7 @@ use Prim.Native.Nat.{ℕ, ◌*◌, ◌+◌, ◌-◌, ◌<◌, ◌≤◌}
 use native.Mathlib.Omega.{arith}
 use borrow.Author.Tests.{le-leb, le-ltb, leb-true, lt-leb, lt-ltb, ltb-true}
 use lib.Dec.{leb, ltb}
-use lib.ListN.{drop, drop_of_length-le, get_or, length, length-append, length-set, set, take}
+use lib.ListN.{drop, get_or, length, length-append, length-set, set, take}
 use lib.Seq.{length-paste, paste}
 use Rattle.spans.specs.Spans.{set_word, stored, written}
 use Rattle.spans.proofs.Spans.{stored-fits, written-fits}
@@ -21,7 +21,7 @@ use Rattle.contents.proofs.Shape.{Sound, Within}
 use Rattle.contents.proofs.Written.{image-count, image-end, image-length}
 use Rattle.reel.specs.declared.Cursor.{Cursor}
 use Rattle.reel.specs.Reel.{Unreeled, reel_of, unreel}
-use Rattle.reel.proofs.Reels.{reel-whole, unreel-nil}
+use Rattle.reel.proofs.Reels.{reel-whole}
 use Rattle.reel.proofs.Found.{Whole}
 use Rattle.filling.specs.Filling.{appended, appended_all, appended_to, blanked, filled_by, has_room, most_counted, sized_for}
 use Rattle.filling.proofs.Pieces.{length-set_word}
@@ -303,6 +303,3 @@ module _ (m : ℕ) (reel b₀ b : List ℕ) (at : ℕ) (A : Along m reel b₀ b 
     along-none r z =
         sym (A.same ∙ ap (λ (u : Unreeled). appended_all m u.frames b) z)
         ∙ ap₂ (λ (k : ℕ) (y : List ℕ). appended_all k (unreel reel).frames y) n e
-
-    pub along-end : length reel ≤ at → b ≡ filled_by l (unreel reel).frames x
-    along-end h = along-none [] (ap unreel (drop_of_length-le reel h) ∙ unreel-nil)

@@ -9,7 +9,12 @@ use Rattle.dump_text.proofs.Whole.{Reached, so_far}
 use Rattle.dump_text.proofs.lay.Given as goal
 
 abbrev pub invariant-loop-used : goal.invariant-loop-used
-invariant-loop-used l = Reached l.reel l.at l.index l.used × (l.at ≤ length l.out) × (length l.out ≡ length l.initial.out) × (l.out ≡ cond l.write (so_far (text_of l.reel) l.at l.initial.out) l.initial.out) × (length l.part ≡ 512)
+invariant-loop-used l =
+    Reached l.reel l.at l.index l.used
+    × (l.at ≤ length l.out)
+    × (length l.out ≡ length l.initial.out)
+    × (l.out ≡ cond l.write (so_far (text_of l.reel) l.at l.initial.out) l.initial.out)
+    × (length l.part ≡ 512)
 
 abbrev pub decreases-loop-used : goal.decreases-loop-used
 decreases-loop-used l = length l.reel - l.used
