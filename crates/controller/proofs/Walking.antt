@@ -3,16 +3,18 @@
 use mathlib.Core.Path.{ap, refl, subst, sym, ◌∙◌, ◌≡◌}
 use mathlib.Core.Bool.{Bool, cond, false, true}
 use mathlib.Core.List.{List, [], ◌∷◌}
+use mathlib.Core.Logic.{inl, inr, ◌⊎◌}
 use Prim.Native.Nat.{suc, zero, ℕ, ◌+◌, ◌-◌, ◌<◌, ◌≤◌}
 use native.Mathlib.Omega.{arith}
 use borrow.Author.Tests.{ltb-false, ltb-true}
 use lib.Dec.{ltb}
 use lib.ListN.{drop, get_or, length, take}
+use Rattle.refusal.specs.declared.Refusal.{Refusal}
 use Rattle.reel.specs.declared.Cursor.{Cursor}
 use Rattle.reel.specs.Reel.{Unreeled, step_at, unreel}
 use Rattle.reel.specs.declared.Step.{Step}
 use Rattle.reel.specs.declared.Step.TheVariants as step
-use Rattle.reel.proofs.Found.{Cut, Ended, Whole, step-whole}
+use Rattle.reel.proofs.Found.{Cut, Ended, Whole, step-ended, step-refused, step-whole}
 use Rattle.reel.proofs.Walks.{from_end}
 use Rattle.controller.specs.declared.Ahead.{Ahead}
 use Rattle.controller.specs.declared.Ahead.TheVariants as ahead
@@ -87,11 +89,17 @@ module _ (reel : List ℕ) (sent at left : ℕ) (g : Seeking reel sent at left) 
       by false p false q =
           over_none (length (unreel reel).frames) sent (omega (arith, many, ltb-false 0 left p, ltb-false 0 sent q))
 
-  pub left_ended : Ended reel at → (a : Ahead) → a ≡ behind_of sent left → Lies reel (unreel reel).frames sent a
+  left_ended : Ended reel at → (a : Ahead) → a ≡ behind_of sent left → Lies reel (unreel reel).frames sent a
   left_ended e = nothing_left (ap (λ (u : Unreeled). u.frames) e.made)
 
-  pub left_cut : (why : _) → Cut reel at why → (a : Ahead) → a ≡ behind_of sent left → Lies reel (unreel reel).frames sent a
+  left_cut : (why : _) → Cut reel at why → (a : Ahead) → a ≡ behind_of sent left → Lies reel (unreel reel).frames sent a
   left_cut why k = nothing_left (ap (λ (u : Unreeled). u.frames) k.made)
+
+  -- a replay is whole, and ends; any other reel has no frame here either
+  pub left_none : (told : Step) → told ≡ step_at reel at → (told ≡ step.End) ⊎ ((why : Refusal) × (told ≡ step.Refused why))
+      → (a : Ahead) → a ≡ behind_of sent left → Lies reel (unreel reel).frames sent a
+  left_none told e (inl z) = left_ended (step-ended reel at (sym e ∙ z))
+  left_none told e (inr (why, z)) = left_cut why (step-refused reel at g.inside why (sym e ∙ z))
 
   pub left_out : length reel ≤ at → (a : Ahead) → a ≡ behind_of sent left → Lies reel (unreel reel).frames sent a
   left_out h = nothing_left (ap (λ (u : Unreeled). u.frames) (from_end reel at (omega (arith, g.inside))))

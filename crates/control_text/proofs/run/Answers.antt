@@ -3,7 +3,6 @@
 use mathlib.Core.Path.{◌≡◌, sym, subst, ◌∙◌}
 use mathlib.Core.Bool.{true}
 use native.Mathlib.Omega.{arith}
-use Rattle.controller.specs.declared.Sending.{Sending}
 use Rattle.control_text.specs.Text.{Short, is_running}
 use Rattle.control_text.proofs.Turns.{going_end, going-forward, going-over, going_start, going_step, going-wrong}
 use Rattle.control_text.proofs.Longest.{all_short}
@@ -18,7 +17,7 @@ put_step-to-requires c =
     let forward = going-forward _ _ _ _ _ _ _ _ _ c.loop-found.invariant goes _ _ _ (sym c.next-found.ensures ∙ c.in-Status.is) in
     record {
       sent_bound = omega (arith, forward, c.sent_of.ensures);
-      short = subst (λ (x : Sending). Short x.turn) (sym c.send-sending.ensures) (all_short _ _);
+      short = subst Short (sym c.send-turn.ensures) (all_short _ _);
     }
 
 pub loop-found-smaller : goal.loop-found-smaller
@@ -31,7 +30,7 @@ pub loop-found-preserved : goal.loop-found-preserved
 loop-found-preserved c =
     let goes : is_running c.loop-found.state ≡ true = sym c.is_running.ensures ∙ c.loop-found-test.true in
     going_step _ _ _ _ _ _ _ _ _ c.loop-found.invariant goes _ _ _ (sym c.next-found.ensures ∙ c.in-Status.is)
-    _ _ _ _ _ c.sent_of.ensures c.send-sending.ensures c.hear-state.ensures c.put_step-to.ensures
+    _ _ _ _ _ c.sent_of.ensures c.send-turn.ensures c.hear-state.ensures c.put_step-to.ensures
 
 pub returns-in-End : goal.returns-in-End
 returns-in-End c =

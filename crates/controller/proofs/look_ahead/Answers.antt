@@ -1,8 +1,8 @@
 -- `look_ahead` meets its contract: the loop's invariant is `Seeking`. Assumes nothing.
 use mathlib.Core.Path.{sym, ◌∙◌}
 use native.Mathlib.Omega.{arith}
-use Rattle.reel.proofs.Found.{step-ended, step-refused, step-whole}
-use Rattle.controller.proofs.Walking.{left_cut, left_ended, left_out, seeking-frame}
+use Rattle.reel.proofs.Found.{step-whole}
+use Rattle.controller.proofs.Walking.{left_none, left_out, seeking-frame}
 use Rattle.controller.proofs.look_ahead.Goals as goal
 
 pub loop-cursor-smaller : goal.loop-cursor-smaller
@@ -16,14 +16,7 @@ loop-cursor-preserved c =
     seeking-frame _ _ _ _ c.loop-cursor.invariant _ _ _ found (omega arith)
 
 pub returns-in-End : goal.returns-in-End
-returns-in-End c =
-    left_ended _ _ _ _ c.loop-cursor.invariant
-    (step-ended _ _ (sym c.step-step.ensures ∙ c.in-End.is)) _ c.behind.ensures
-
-pub returns-in-Refused : goal.returns-in-Refused
-returns-in-Refused c =
-    let g = c.loop-cursor.invariant in
-    left_cut _ _ _ _ g _ (step-refused _ _ g.inside _ (sym c.step-step.ensures ∙ c.in-Refused.is)) _ c.behind-in-Refused.ensures
+returns-in-End c = left_none _ _ _ _ c.loop-cursor.invariant _ c.step-step.ensures c.in-End.is _ c.behind.ensures
 
 pub returns : goal.returns
 returns c = left_out _ _ _ _ c.loop-cursor.invariant (omega arith) _ c.behind-2.ensures
