@@ -14,7 +14,7 @@ use Rattle.texts.proofs.Forms.{filled-then, spaced-then}
 use Rattle.refusal.specs.declared.Refusal.{Refusal}
 use Rattle.refusal.specs.Numbers.{number_of}
 use Rattle.controller.specs.declared.State.TheVariants.{Done, Running, Stopped}
-use Rattle.controller.specs.declared.Sending.{Sending}
+use Rattle.controller.specs.Controller.{Turn}
 use Rattle.control_text.specs.Text.{closing, hex_digit, hex_of, judged_words, status_name, step_line, turn_words}
 
 -- ---- words
@@ -70,13 +70,13 @@ sent-form ws n frame e =
 
 -- ---- lines
 
-pub step-form : (sent : ℕ) (x : Sending) (s : List ℕ)
-    → step_line sent x s ≡ decimal (sent + 1) ++ (spaced (judged_words sent s) [] ++ (spaced (turn_words x.turn x.frame) [] ++ (10 ∷ [])))
+pub step-form : (sent : ℕ) (x : Turn) (s : List ℕ)
+    → step_line sent x s ≡ decimal (sent + 1) ++ (spaced (judged_words sent s) [] ++ (spaced (turn_words x) [] ++ (10 ∷ [])))
 unfolding step_line line
 step-form sent x s =
     ap (λ (l : List ℕ). decimal (sent + 1) ++ l)
-    (spaced-append (judged_words sent s) (turn_words x.turn x.frame) (10 ∷ [])
-    ∙ ap (λ (l : List ℕ). spaced (judged_words sent s) [] ++ l) (sym (spaced-then (turn_words x.turn x.frame) [] (10 ∷ []))))
+    (spaced-append (judged_words sent s) (turn_words x) (10 ∷ [])
+    ∙ ap (λ (l : List ℕ). spaced (judged_words sent s) [] ++ l) (sym (spaced-then (turn_words x) [] (10 ∷ []))))
 
 pub waiting-form : (sent : ℕ) (s : List ℕ) → closing (Running sent) s ≡ filled (word "waiting 0\n") (sent ∷ []) []
 unfolding closing line spaced filled

@@ -25,12 +25,8 @@ use Rattle.book.specs.Book.{Read, layout_in, opened_for}
 use Rattle.book.proofs.Kept.{opened-kept}
 use Rattle.controller.specs.declared.State.{State}
 use Rattle.controller.specs.declared.State.TheVariants.{Done, Running, Stopped}
-use Rattle.controller.specs.Controller.{Answer}
-use Rattle.std.specs.Prelude.{Err, Ok}
-use Rattle.controller.specs.declared.Sending.{Sending}
-use Rattle.controller.specs.declared.Turn.{Turn}
-use Rattle.controller.specs.declared.Turn.TheVariants as turn
-use Rattle.controller.specs.Controller.{heard_on, is_good, onward_of, sending_of, start_of}
+use Rattle.std.specs.Prelude.{Err, None, Ok, Some}
+use Rattle.controller.specs.Controller.{Answer, Turn, heard_on, is_good, onward_of, sending_of, start_of}
 use Rattle.controller.proofs.Laws.{sends-short}
 use Rattle.control_text.specs.Text.{Play, Short, behind, closed, closing, cmd_name, heard, hex_of, is_first, is_read, is_running, judged_words, longest, played}
 use Rattle.control_text.specs.Text.{played_by, played_from, sent_of, status_name, step_line, text_of, turn_words, unheard, wrong}
@@ -62,22 +58,22 @@ unfolding spaced hex_of
 bytes-long [] = refl
 bytes-long (b ∷ bs) = omega (arith, bytes-long bs)
 
-turn-most : (t : Turn) (frame : List ℕ) → Short t → length (spaced (turn_words t frame) []) ≤ 41
+turn-most : (t : Turn) → Short t → length (spaced (turn_words t) []) ≤ 41
 unfolding turn_words spaced
-turn-most (turn.Sends n) frame h = go (is_read n)
+turn-most (Ok (Some s)) h = go (is_read s.len)
   where
-    go : (t : Bool) → length (spaced (cond t (word "read" ∷ []) (word "sent" ∷ map hex_of (take n frame))) []) ≤ 41
+    go : (t : Bool) → length (spaced (cond t (word "read" ∷ []) (word "sent" ∷ map hex_of (take s.len s.frame))) []) ≤ 41
     go true = omega arith
-    go false = omega (arith, bytes-long (take n frame), length-take n frame)
-turn-most turn.Over frame h = omega arith
-turn-most (turn.Refused x) frame h = omega arith
+    go false = omega (arith, bytes-long (take s.len s.frame), length-take s.len s.frame)
+turn-most (Ok None) h = omega arith
+turn-most (Err x) h = omega arith
 
-pub step-most : (sent : ℕ) (x : Sending) (s : List ℕ) → Short x.turn → length (step_line sent x s) ≤ 128
+pub step-most : (sent : ℕ) (x : Turn) (s : List ℕ) → Short x → length (step_line sent x s) ≤ 128
 step-most sent x s h =
     let long : length (step_line sent x s)
-    ≡ length (decimal (sent + 1)) + (length (spaced (judged_words sent s) []) + (length (spaced (turn_words x.turn x.frame) []) + 1)) =
+    ≡ length (decimal (sent + 1)) + (length (spaced (judged_words sent s) []) + (length (spaced (turn_words x) []) + 1)) =
     ap length (step-form sent x s) ∙ simp length-append in
-    omega (arith, decimal-most (sent + 1), judged-most sent s, turn-most x.turn x.frame h)
+    omega (arith, decimal-most (sent + 1), judged-most sent s, turn-most x h)
 
 pub closing-most : (st : State) (s : List ℕ) → length (closing st s) ≤ 128
 unfolding closing line
@@ -91,24 +87,24 @@ refused-most x = simp (spaced-length, spaced-none) (omega (arith, decimal-most (
 
 -- ---- what is sent
 
-pub all_short : (b : List ℕ) (st : State) → Short (sending_of (opened_for Read b) st).turn
-all_short b st = go (sending_of (opened_for Read b) st).turn refl
+pub all_short : (b : List ℕ) (st : State) → Short (sending_of (opened_for Read b) st)
+all_short b st = go (sending_of (opened_for Read b) st) refl
   where
-    go : (t : Turn) → (sending_of (opened_for Read b) st).turn ≡ t → Short t
-    go (turn.Sends m) e = sends-short b st m e
-    go turn.Over e = tt
-    go (turn.Refused x) e = tt
+    go : (t : Turn) → sending_of (opened_for Read b) st ≡ t → Short t
+    go (Ok (Some s)) e = sends-short b st s e
+    go (Ok None) e = tt
+    go (Err x) e = tt
 
 -- what is known of the frames of a book that a read finds
 record Sendable (fs : List (List ℕ)) : Type 0 where
-  pub short : (st : State) → Short (sending_of (holds fs) st).turn
+  pub short : (st : State) → Short (sending_of (holds fs) st)
   pub few : length fs ≤ most_frames
 
 opened-sendable : (b : List ℕ) (fs : List (List ℕ)) → opened_for Read b ≡ holds fs → Sendable fs
 unfolding opened_for
 opened-sendable b fs e =
     let k = opened-kept (layout_in b) b fs e in
-    record { short = subst (λ (q : Contents). (st : State) → Short (sending_of q st).turn) e (all_short b); few = most-frames fs k.sound k.forms }
+    record { short = subst (λ (q : Contents). (st : State) → Short (sending_of q st)) e (all_short b); few = most-frames fs k.sound k.forms }
 
 -- ---- runs
 

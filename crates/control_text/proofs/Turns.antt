@@ -1,7 +1,7 @@
 -- How a run goes on: the lines that stand there, and what is played from here on, make up the whole (`Going`). A step keeps that (`going_step`), and where
 -- nothing more is played it is all: at the end, or where the statuses end (`going-close`), or where a word is wrong (`going-wrong`).
 -- Assumes nothing.
-use mathlib.Core.Path.{◌≡◌, refl, sym, ap, ap₂, subst, ◌∙◌}
+use mathlib.Core.Path.{◌≡◌, refl, sym, ap, ap₂, ◌∙◌}
 use mathlib.Core.Bool.{Bool, cond, false, true}
 use mathlib.Core.List.{List, [], ◌∷◌, ◌++◌, append_assoc, append-nil}
 use Prim.Native.Nat.{ℕ, ◌+◌, ◌<◌, ◌≤◌}
@@ -19,14 +19,11 @@ use Rattle.contents.specs.Contents.{Contents, holds, refused}
 use Rattle.book.specs.Book.{Read, opened_for}
 use Rattle.controller.specs.declared.State.{State}
 use Rattle.controller.specs.declared.State.TheVariants.{Done, Running, Stopped}
-use Rattle.controller.specs.declared.Sending.{Sending}
-use Rattle.controller.specs.declared.Turn.{Turn}
-use Rattle.controller.specs.declared.Turn.TheVariants as turn
-use Rattle.controller.specs.Controller.{heard_on, is_good, is_over, onward_of, sending_of}
+use Rattle.controller.specs.Controller.{Turn, heard_on, is_good, is_over, onward_of, sending_of}
 use Rattle.control_text.specs.declared.Halt.{Halt}
 use Rattle.control_text.specs.declared.Halt.TheVariants.{Wrong}
 use Rattle.control_text.specs.declared.Played.{Played}
-use Rattle.control_text.specs.Text.{Closes, Play, Short, Within, behind, closed, halt_of, heard, is_running, played_from, run_of, sent_of}
+use Rattle.control_text.specs.Text.{Closes, Play, Within, behind, closed, halt_of, heard, is_running, played_from, run_of, sent_of}
 use Rattle.control_text.specs.Text.{step_line, text_of, told_of, unheard, wrong}
 
 -- ---- one step
@@ -54,9 +51,6 @@ heard-few (holds fs) (Running sent) s = go (is_over (length fs) sent) (eqb sent 
     go false true v h = h
     go false false true h = h
     go false false false h = omega arith
-
-pub short-says : (t : Turn) (n : ℕ) → t ≡ turn.Sends n → Short t → n ≤ 12
-short-says t n e h = subst Short e h
 
 module _ (q : Contents) (st : State) (s : List ℕ) where
   pub played-over : (ws : List Word) → is_running st ≡ false → played_from q st s ws ≡ closed st s
@@ -125,7 +119,7 @@ module _ (b text : List ℕ) (first : State) (o : List ℕ) (st : State) (s : Li
       pub going-forward : (at < next) × (next ≤ length text) × (sent_of st < next)
       going-forward = (is.forward, is.within, omega (arith, is.forward, g.few))
 
-      pub going_step : (sent : ℕ) (y : Sending) (st' : State) (to' : ℕ) (out' : List ℕ) → sent ≡ sent_of st → y ≡ sending_of q st → st' ≡ heard q st x
+      pub going_step : (sent : ℕ) (y : Turn) (st' : State) (to' : ℕ) (out' : List ℕ) → sent ≡ sent_of st → y ≡ sending_of q st → st' ≡ heard q st x
           → Puts (step_line sent y x) to out to' out' → Going b text first o st' x next to' out'
       going_step sent y st' to' out' n k h p = record {
         shown = g.shown ++ step_line sent y x;
@@ -135,7 +129,7 @@ module _ (b text : List ℕ) (first : State) (o : List ℕ) (st : State) (s : Li
             ∙ ap (behind g.shown) (played-step q st s is.word (words_at text next) x r is.status is.says)
             ∙ behind-twice g.shown (step_line (sent_of st) (sending_of q st) x) (played_from q (heard q st x) x (words_at text next))
             ∙ ap₂ (λ (l : List ℕ) (z : State). behind (g.shown ++ l) (played_from q z x (words_at text next)))
-            (ap₂ (λ (m : ℕ) (w : Sending). step_line m w x) (sym n) (sym k)) (sym h);
+            (ap₂ (λ (m : ℕ) (w : Turn). step_line m w x) (sym n) (sym k)) (sym h);
         puts = puts_then g.puts p;
         long = puts-length p ∙ g.long;
         two = refl;

@@ -1,6 +1,6 @@
 -- What the program `control` prints of a run, to the byte (REFERENCE, "Controller"): by the contracts of the controller, step for step.
 -- Assumes nothing.
-use Rattle.std.specs.Prelude.{ℕ, ◌+◌, ◌*◌, ◌/◌, ◌%◌, ◌≤◌, ◌≡◌, Bool, cond, not, List, [], ◌∷◌, ◌++◌, map, eqb, leb, ltb, length, take}
+use Rattle.std.specs.Prelude.{ℕ, ◌+◌, ◌*◌, ◌/◌, ◌%◌, ◌≤◌, ◌≡◌, Bool, cond, not, List, [], ◌∷◌, ◌++◌, map, eqb, leb, ltb, length, take, None, Some, Err, Ok}
 use Rattle.reading.specs.Decimal.{decimal}
 use Rattle.texts.specs.Words.{word, line}
 use Rattle.texts.specs.Written.{Puts}
@@ -14,12 +14,7 @@ use Rattle.contents.specs.Contents.{Contents}
 use Rattle.book.specs.Book.{Read, opened_for}
 use Rattle.controller.specs.declared.State.{State}
 use Rattle.controller.specs.declared.State.TheVariants.{Done, Running, Stopped}
-use Rattle.controller.specs.Controller.{Answer}
-use Rattle.std.specs.Prelude.{Err, Ok}
-use Rattle.controller.specs.declared.Sending.{Sending}
-use Rattle.controller.specs.declared.Turn.{Turn}
-use Rattle.controller.specs.declared.Turn.TheVariants as turn
-use Rattle.controller.specs.Controller.{heard_of, is_good, sending_of, start_of}
+use Rattle.controller.specs.Controller.{Answer, Turn, heard_of, is_good, sending_of, start_of}
 use Rattle.controller.specs.Runs.{is_ended, kept}
 use Rattle.control_text.specs.declared.Halt.{Halt}
 use Rattle.control_text.specs.declared.Halt.TheVariants.{Ended, Waiting, Wrong}
@@ -63,14 +58,14 @@ abbrev pub is_read : ℕ → Bool
 is_read n = eqb n 0
 
 -- what the step sent, the bytes of a frame or the final read; where the work is over there is nothing to say
-unfoldable pub turn_words : Turn → List ℕ → List (List ℕ)
-turn_words (turn.Sends n) frame = cond (is_read n) (word "read" ∷ []) (word "sent" ∷ map hex_of (take n frame))
-turn_words turn.Over frame = []
-turn_words (turn.Refused x) frame = []
+unfoldable pub turn_words : Turn → List (List ℕ)
+turn_words (Ok (Some s)) = cond (is_read s.len) (word "read" ∷ []) (word "sent" ∷ map hex_of (take s.len s.frame))
+turn_words (Ok None) = []
+turn_words (Err x) = []
 
 -- the step behind so many frames: its number, the frame that is judged and how it went, and what is sent
-unfoldable pub step_line : ℕ → Sending → List ℕ → List ℕ
-step_line sent x s = line (decimal (sent + 1)) (judged_words sent s ++ turn_words x.turn x.frame)
+unfoldable pub step_line : ℕ → Turn → List ℕ → List ℕ
+step_line sent x s = line (decimal (sent + 1)) (judged_words sent s ++ turn_words x)
 
 -- ---- the last line
 
@@ -167,9 +162,9 @@ pub record Closes (s : List ℕ) (st : State) (at : ℕ) (before : List ℕ) (r 
 
 -- no more bytes go out than a frame has
 abbrev pub Short : Turn → Type 0
-Short (turn.Sends n) = n ≤ 12
-Short turn.Over = Unit {0}
-Short (turn.Refused x) = Unit {0}
+Short (Ok (Some s)) = s.len ≤ 12
+Short (Ok None) = Unit {0}
+Short (Err x) = Unit {0}
 
 -- a word that ended a run lies in a text of n bytes
 abbrev pub Within : ℕ → Halt → Type 0

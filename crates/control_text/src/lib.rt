@@ -12,7 +12,7 @@ ghost use Rattle.book.specs.Book.{Read, opened_for};
 ghost use Rattle.control_text.specs.Text.{Closes, Short, Within, closing, heard, hex_digit, hex_of, is_running, judged_words, longest, played, played_in};
 ghost use Rattle.control_text.specs.Text.{run_of, sent_of, status_name, step_line, text_of, told_of, turn_words};
 
-use controller::{Sending, State, Turn};
+use controller::{State, Turn};
 use status::{CmdStatus, Status};
 use texts::{put_byte, put_decimal, put_form, put_text};
 
@@ -84,33 +84,32 @@ fn put_judged(out: &mut [u8], at: usize, sent: usize, status: &[u8]) -> usize
 }
 
 // What is sent.
-fn put_turn(out: &mut [u8], at: usize, sending: Sending) -> usize
-    requires { Short sending.turn }
-    ensures { Puts (spaced (turn_words sending.turn sending.frame) []) at out.old result out.new }
+fn put_turn(out: &mut [u8], at: usize, turn: Turn) -> usize
+    requires { Short turn }
+    ensures { Puts (spaced (turn_words turn) []) at out.old result out.new }
 {
-    let turn = sending.turn;
-    let frame = sending.frame;
     match turn {
-        Turn::Sends(n) => {
-            if n == 0 {
+        Ok(Some(sending)) => {
+            let frame = sending.frame;
+            if sending.len == 0 {
                 return put_text(out, at, b" read");
             }
             let to = put_text(out, at, b" sent");
-            put_bytes(out, to, &frame[0..n])
+            put_bytes(out, to, &frame[0..sending.len])
         }
-        Turn::Over => at,
-        Turn::Refused(_) => at,
+        Ok(None) => at,
+        Err(_) => at,
     }
 }
 
-fn put_step(out: &mut [u8], at: usize, sent: usize, sending: Sending, status: &[u8]) -> usize
+fn put_step(out: &mut [u8], at: usize, sent: usize, turn: Turn, status: &[u8]) -> usize
     requires sent_bound { sent + 1 < 2 ^ 64 }
-    requires short { Short sending.turn }
-    ensures { Puts (step_line sent sending status.now) at out.old result out.new }
+    requires short { Short turn }
+    ensures { Puts (step_line sent turn status.now) at out.old result out.new }
 {
     let a = put_decimal(out, at, sent as u64 + 1);
     let b = put_judged(out, a, sent, status);
-    let c = put_turn(out, b, sending);
+    let c = put_turn(out, b, turn);
     put_byte(out, c, b'\n')
 }
 
@@ -197,8 +196,8 @@ fn run(book: &[u8], text: &[u8], first: State, out: &mut [u8]) -> Played
             }
         };
         last = [found.high, found.low];
-        let sending = controller::send(state, book);
-        to = put_step(out, to, sent, sending, &last);
+        let turn = controller::send(state, book);
+        to = put_step(out, to, sent, turn, &last);
         state = hear(book, state, &last);
         at = found.next;
     }

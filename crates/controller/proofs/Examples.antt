@@ -10,12 +10,8 @@ use Rattle.spans.specs.Spans.{written}
 use Rattle.contents.specs.Contents.{Contents, holds, refused}
 use Rattle.controller.specs.declared.State.{State}
 use Rattle.controller.specs.declared.State.TheVariants.{Done, Running, Stopped}
-use Rattle.controller.specs.Controller.{Answer}
-use Rattle.std.specs.Prelude.{Err, Ok}
-use Rattle.controller.specs.declared.Sending.{Sending}
-use Rattle.controller.specs.declared.Turn.{Turn}
-use Rattle.controller.specs.declared.Turn.TheVariants as turn
-use Rattle.controller.specs.Controller.{heard_of, heard_on, is_good, sending_of, sends_of, start_of}
+use Rattle.std.specs.Prelude.{Err, None, Ok, Some}
+use Rattle.controller.specs.Controller.{Answer, Turn, heard_of, heard_on, is_good, sending_of, sends_of, start_of}
 
 abbrev first : List ℕ
 first = 0x02 ∷ 0x23 ∷ 0x34 ∷ []
@@ -43,30 +39,27 @@ first-states = refl
 
 -- ---- what is sent
 
-abbrev sendings : Contents → List State → List Sending
+abbrev sendings : Contents → List State → List Turn
 sendings q [] = []
 sendings q (st ∷ sts) = sending_of q st ∷ sendings q sts
 
-abbrev sending : Turn → List ℕ → Sending
-sending t bytes = record { turn = t; frame = bytes }
-
-abbrev nothing : Turn → Sending
-nothing t = sending t (replicate 12 0)
+abbrev sending : ℕ → List ℕ → Turn
+sending n bytes = Ok (Some (record { len = n; frame = bytes }))
 
 -- the frames, the final read, and nothing behind it: neither in a forged state nor behind an end
 pub two-send : sendings two (Running 0 ∷ Running 1 ∷ Running 2 ∷ Running 3 ∷ Running 4 ∷ Running 0xFFFFFFFFFFFFFFFF ∷ Done ∷ Stopped 1 ∷ [])
-    ≡ sending (turn.Sends 3) (first ++ replicate 9 0)
-    ∷ sending (turn.Sends 6) (second ++ replicate 6 0)
-    ∷ nothing (turn.Sends 0)
-    ∷ replicate 5 (nothing turn.Over)
+    ≡ sending 3 (first ++ replicate 9 0)
+    ∷ sending 6 (second ++ replicate 6 0)
+    ∷ sending 0 (replicate 12 0)
+    ∷ replicate 5 (Ok None)
 unfolding sends_of written
 two-send = refl
 
-pub none-send : sendings none (Running 0 ∷ Running 1 ∷ Done ∷ []) ≡ nothing turn.Over ∷ nothing turn.Over ∷ nothing turn.Over ∷ []
+pub none-send : sendings none (Running 0 ∷ Running 1 ∷ Done ∷ []) ≡ Ok None ∷ Ok None ∷ Ok None ∷ []
 unfolding sends_of
 none-send = refl
 
-pub broken-send : sendings broken (Running 0 ∷ Done ∷ []) ≡ nothing (turn.Refused NotWellFormed) ∷ nothing (turn.Refused NotWellFormed) ∷ []
+pub broken-send : sendings broken (Running 0 ∷ Done ∷ []) ≡ Err NotWellFormed ∷ Err NotWellFormed ∷ []
 broken-send = refl
 
 -- ---- what a status makes of a state

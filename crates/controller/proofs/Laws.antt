@@ -25,7 +25,7 @@ use Rattle.status.specs.Codes.{cmds, good_cmd}
 use Rattle.status.specs.Notation.{field, wide}
 use Rattle.contents.specs.Contents.{Contents, holds, refused}
 use Rattle.contents.proofs.Places.{judge-own, judge-place}
-use Rattle.std.specs.Prelude.{Ok, Err}
+use Rattle.std.specs.Prelude.{Ok, Err, Option, None, Some}
 use Rattle.book.specs.Book.{Read, layout_in, longest_reel, opened_for}
 use Rattle.book.specs.History.{Replay, after}
 use Rattle.book.proofs.Told.{Fits, Replayed, opened-fits, replay-told}
@@ -33,8 +33,8 @@ use Rattle.book.proofs.Versions.{opened_for-opened}
 use Rattle.book.proofs.Places.{opened_for-says}
 use Rattle.controller.specs.declared.State.{State}
 use Rattle.controller.specs.declared.State.TheVariants as state
-use Rattle.controller.specs.declared.Turn.TheVariants as turn
-use Rattle.controller.specs.Controller.{bare, goes_on, heard_of, is_good, is_over, sending_of, sends, sends_of, start_of}
+use Rattle.controller.specs.declared.Sending.{Sending}
+use Rattle.controller.specs.Controller.{Turn, goes_on, heard_of, is_good, is_over, reads, sending_of, sends, sends_of, start_of}
 use Rattle.controller.specs.Runs.{FirstBad, NoneBad, is_ended, run}
 use Rattle.controller.proofs.Walking.{behind-one}
 use Rattle.controller.proofs.Steps.{sends-done, sends-over, sends-read, sends-stopped, over_none, over-past}
@@ -74,12 +74,12 @@ record First (m p : ℕ) (ss : List (List ℕ)) (q : ℕ) : Type 0 where
   earlier : (i : ℕ) → p ≤ i → i < q → is_good (get_or ss (i - p) []) ≡ true
 
 -- all of them are good
-record None (m p : ℕ) (ss : List (List ℕ)) : Type 0 where
+record NoBad (m p : ℕ) (ss : List (List ℕ)) : Type 0 where
   all : (i : ℕ) → p ≤ i → i < p + m → i < p + length ss → is_good (get_or ss (i - p) []) ≡ true
 
 abbrev Says : ℕ → ℕ → List (List ℕ) → Verdict → Type 0
 Says m p ss (bad q) = First m p ss q
-Says m p ss fine = None m p ss
+Says m p ss fine = NoBad m p ss
 
 next-at : (s : List ℕ) (ss : List (List ℕ)) (p i : ℕ) → p + 1 ≤ i → get_or (s ∷ ss) (i - p) [] ≡ get_or ss (i - (p + 1)) []
 next-at s ss p i h = let e : i - p - 1 ≡ i - (p + 1) = omega arith in behind-one s ss (i - p) (omega arith) ∙ ap (λ (k : ℕ). get_or ss k []) e
@@ -131,7 +131,7 @@ first-once m p ss q r F G = by (eqb q r) refl (leb q r) refl
         absurd (false≢true (sym F.wrong ∙ G.earlier q F.low h))
     by false e false f = absurd (false≢true (sym G.wrong ∙ F.earlier r G.low (leb-false q r f)))
 
-first-none : (m p : ℕ) (ss : List (List ℕ)) (q : ℕ) → First m p ss q → None m p ss → ⊥
+first-none : (m p : ℕ) (ss : List (List ℕ)) (q : ℕ) → First m p ss q → NoBad m p ss → ⊥
 first-none m p ss q F N = false≢true (sym F.wrong ∙ N.all q F.low F.high F.judged)
 
 -- ---- of a whole run, whose first status judges none
@@ -157,10 +157,10 @@ module _ (n : ℕ) (s : List ℕ) (ss : List (List ℕ)) where
         earlier = λ i a h. sym (ap is_good (behind-one s ss i a)) ∙ F.earlier i a h;
       }
 
-  none-whole : NoneBad n (s ∷ ss) → None n 1 ss
+  none-whole : NoneBad n (s ∷ ss) → NoBad n 1 ss
   none-whole N = record { all = λ i a h k. sym (ap is_good (behind-one s ss i a)) ∙ N.all i a (omega arith) (omega arith) }
 
-  whole-none : None n 1 ss → NoneBad n (s ∷ ss)
+  whole-none : NoBad n 1 ss → NoneBad n (s ∷ ss)
   whole-none N = record { all = λ i a h k. ap is_good (behind-one s ss i a) ∙ N.all i a (omega arith) (omega arith) }
 
 -- what the verdict says of the statuses
@@ -194,53 +194,42 @@ verdict-fine n (s ∷ ss) N = by (first_bad n 1 ss) (says n 1 ss)
 
 -- ---- the theorems
 
--- what a step sends of a book that opens is no refusal
-never-refused : (fs : List (List ℕ)) (x : Refusal) (st : State) → (sends_of fs st).turn ≡ turn.Refused x → ⊥
-unfolding sends_of
-never-refused fs x state.Done e = let z : ◌≡◌ {A = ℕ} 0 1 = cc in omega arith
-never-refused fs x (state.Stopped p) e = let z : ◌≡◌ {A = ℕ} 0 1 = cc in omega arith
-never-refused fs x (state.Running sent) e = by (is_over (length fs) sent) e
-  where
-    by : (t : Bool) → (cond t (bare turn.Over) (sends (get_or fs sent []))).turn ≡ turn.Refused x → ⊥
-    by true e = let z : ◌≡◌ {A = ℕ} 0 1 = cc in omega arith
-    by false e = let z : ◌≡◌ {A = ℕ} 0 1 = cc in omega arith
-
 -- no step sends more bytes than there is place for
-pub sends-short : (b : List ℕ) (st : State) (m : ℕ) → (sending_of (opened_for Read b) st).turn ≡ turn.Sends m → m ≤ 12
+pub sends-short : (b : List ℕ) (st : State) (s : Sending) → sending_of (opened_for Read b) st ≡ Ok (Some s) → s.len ≤ 12
 unfolding sends_of
-sends-short b st m = by (opened_for Read b) refl st
+sends-short b st s = by (opened_for Read b) refl st
   where
     frame-short : (fs : List (List ℕ)) → Fits fs → (j : ℕ) → length (get_or fs j []) ≤ 12
     frame-short [] F j = omega arith
     frame-short (f ∷ fs) F zero = F.0.short
     frame-short (f ∷ fs) F (suc j) = frame-short fs F.1 j
 
-    by : (q : Contents) → opened_for Read b ≡ q → (st : State) → (sending_of q st).turn ≡ turn.Sends m → m ≤ 12
+    by : (q : Contents) → opened_for Read b ≡ q → (st : State) → sending_of q st ≡ Ok (Some s) → s.len ≤ 12
     by (refused x) h st e = absurd (let z : ◌≡◌ {A = ℕ} 0 1 = cc in omega arith)
     by (holds fs) h state.Done e = absurd (let z : ◌≡◌ {A = ℕ} 0 1 = cc in omega arith)
     by (holds fs) h (state.Stopped p) e = absurd (let z : ◌≡◌ {A = ℕ} 0 1 = cc in omega arith)
     by (holds fs) h (state.Running sent) e = pick (is_over (length fs) sent) e
       where
-        pick : (t : Bool) → (cond t (bare turn.Over) (sends (get_or fs sent []))).turn ≡ turn.Sends m → m ≤ 12
+        pick : (t : Bool) → ◌≡◌ {A = Turn} (Ok (cond t None (sends (get_or fs sent [])))) (Ok (Some s)) → s.len ≤ 12
         pick true e = absurd (let z : ◌≡◌ {A = ℕ} 0 1 = cc in omega arith)
         pick false e =
-            let k : length (get_or fs sent []) ≡ m = cc in
+            let k : length (get_or fs sent []) ≡ s.len = cc in
             omega (arith, frame-short fs (opened-fits (layout_in b) b fs (opened_for-opened Read b fs h)) sent)
 
 -- what is refused is what a read refuses
 pub refused_all : (b : List ℕ) (x : Refusal) → opened_for Read b ≡ refused x → (st : State) (s : List ℕ)
-    → (start_of (opened_for Read b) ≡ Err x) × ((sending_of (opened_for Read b) st).turn ≡ turn.Refused x)
+    → (start_of (opened_for Read b) ≡ Err x) × (sending_of (opened_for Read b) st ≡ Err x)
     × (heard_of (opened_for Read b) st (is_good s) ≡ Err x)
 refused_all b x e st s = (
   ap start_of e,
-  ap (λ (q : Contents). (sending_of q st).turn) e,
+  ap (λ (q : Contents). sending_of q st) e,
   ap (λ (q : Contents). heard_of q st (is_good s)) e,
 )
 
 -- and nothing else is, in any state
 pub refused-own : (b : List ℕ) (x : Refusal) (st : State) (s : List ℕ)
     → (start_of (opened_for Read b) ≡ Err x → opened_for Read b ≡ refused x)
-    × ((sending_of (opened_for Read b) st).turn ≡ turn.Refused x → opened_for Read b ≡ refused x)
+    × (sending_of (opened_for Read b) st ≡ Err x → opened_for Read b ≡ refused x)
     × (heard_of (opened_for Read b) st (is_good s) ≡ Err x → opened_for Read b ≡ refused x)
 refused-own b x st s = (started (opened_for Read b), sent (opened_for Read b), heard (opened_for Read b))
   where
@@ -252,9 +241,9 @@ refused-own b x st s = (started (opened_for Read b), sent (opened_for Read b), h
     heard (refused y) e = let same : y ≡ x = cc in ap refused same
     heard (holds fs) e = absurd (let z : ◌≡◌ {A = ℕ} 0 1 = cc in omega arith)
 
-    sent : (q : Contents) → (sending_of q st).turn ≡ turn.Refused x → q ≡ refused x
+    sent : (q : Contents) → sending_of q st ≡ Err x → q ≡ refused x
     sent (refused y) e = let same : y ≡ x = cc in ap refused same
-    sent (holds fs) e = absurd (never-refused fs x st e)
+    sent (holds fs) e = absurd (let z : ◌≡◌ {A = ℕ} 0 1 = cc in omega arith)
 
 -- it is 11, 10 or 16, and has no place; so never 12
 pub refused-numbers : (b : List ℕ) (x : Refusal) → opened_for Read b ≡ refused x
@@ -272,21 +261,21 @@ module _ (b : List ℕ) (fs : List (List ℕ)) (opens : opened_for Read b ≡ ho
   fit = opened-fits (layout_in b) b fs (opened_for-opened Read b fs opens)
 
   -- BEHIND THE END NOTHING IS SENT: neither a frame nor a read
-  pub done-sends : sending_of (opened_for Read b) state.Done ≡ bare turn.Over
-  done-sends = ap (λ (q : Contents). sending_of q state.Done) opens ∙ sym (sends-done fs)
+  pub done-sends : sending_of (opened_for Read b) state.Done ≡ Ok None
+  done-sends = ap (λ (q : Contents). sending_of q state.Done) opens ∙ ap (λ (x : Option Sending). Ok x) (sym (sends-done fs))
 
-  pub stopped-sends : (p : ℕ) → sending_of (opened_for Read b) (state.Stopped p) ≡ bare turn.Over
-  stopped-sends p = ap (λ (q : Contents). sending_of q (state.Stopped p)) opens ∙ sym (sends-stopped fs p)
+  pub stopped-sends : (p : ℕ) → sending_of (opened_for Read b) (state.Stopped p) ≡ Ok None
+  stopped-sends p = ap (λ (q : Contents). sending_of q (state.Stopped p)) opens ∙ ap (λ (x : Option Sending). Ok x) (sym (sends-stopped fs p))
 
-  pub past-sends : (j : ℕ) → n < j → sending_of (opened_for Read b) (state.Running j) ≡ bare turn.Over
-  past-sends j h = ap (λ (q : Contents). sending_of q (state.Running j)) opens ∙ sym (sends-over fs j (over-past n j h))
+  pub past-sends : (j : ℕ) → n < j → sending_of (opened_for Read b) (state.Running j) ≡ Ok None
+  past-sends j h = ap (λ (q : Contents). sending_of q (state.Running j)) opens ∙ ap (λ (x : Option Sending). Ok x) (sym (sends-over fs j (over-past n j h)))
 
-  pub none-sends : (j : ℕ) → n ≡ 0 → sending_of (opened_for Read b) (state.Running j) ≡ bare turn.Over
-  none-sends j e = ap (λ (q : Contents). sending_of q (state.Running j)) opens ∙ sym (sends-over fs j (over_none n j e))
+  pub none-sends : (j : ℕ) → n ≡ 0 → sending_of (opened_for Read b) (state.Running j) ≡ Ok None
+  none-sends j e = ap (λ (q : Contents). sending_of q (state.Running j)) opens ∙ ap (λ (x : Option Sending). Ok x) (sym (sends-over fs j (over_none n j e)))
 
   -- BEHIND THE LAST FRAME COMES THE FINAL READ
-  pub last-reads : 0 < n → sending_of (opened_for Read b) (state.Running n) ≡ bare (turn.Sends 0)
-  last-reads h = ap (λ (q : Contents). sending_of q (state.Running n)) opens ∙ sym (sends-read fs n h refl)
+  pub last-reads : 0 < n → sending_of (opened_for Read b) (state.Running n) ≡ Ok reads
+  last-reads h = ap (λ (q : Contents). sending_of q (state.Running n)) opens ∙ ap (λ (x : Option Sending). Ok x) (sym (sends-read fs n h refl))
 
   -- AN EMPTY BOOK IS DONE AT ONCE
   pub empty-done : n ≡ 0 → start_of (opened_for Read b) ≡ Ok state.Done

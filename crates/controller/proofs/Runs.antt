@@ -10,6 +10,7 @@ use borrow.Author.Tests.{le-leb, lt-leb, ltb-false, ltb-true, ne_eqb}
 use lib.Dec.{leb, ltb}
 use lib.ListN.{get_or-eq_default, drop, get_or, length, length-replicate, replicate, take}
 use lib.Seq.{drop-cons, paste, take-add, take_all, take-length, take-paste}
+use Rattle.std.specs.Prelude.{Option, None, Ok}
 use Rattle.refusal.specs.declared.Refusal.{Refusal}
 use Rattle.spans.specs.Spans.{written}
 use Rattle.spans.proofs.Spans.{written-fits}
@@ -35,7 +36,7 @@ unfolding run
 refused-stays b x e st [] = refl
 refused-stays b x e st (s ∷ ss) =
     ap (λ (q : Contents). record {
-      sent = handed (sending_of q st).turn (sending_of q st).frame ++ (run b (kept st (heard_of q st (is_good s))) ss).sent;
+      sent = handed (sending_of q st) ++ (run b (kept st (heard_of q st (is_good s))) ss).sent;
       state = (run b (kept st (heard_of q st (is_good s))) ss).state;
     }) e
     ∙ refused-stays b x e st ss
@@ -58,7 +59,7 @@ front f h =
     zeroth : (m : ℕ) → m ≡ 0 + m
     zeroth m = omega arith
 
-handed-frame : (f : List ℕ) → Fit f → handed (sends f).turn (sends f).frame ≡ f ∷ []
+handed-frame : (f : List ℕ) → Fit f → handed (Ok (sends f)) ≡ f ∷ []
 handed-frame f h =
     ap (λ (t : Bool). cond t [] (take (length f) (written (replicate 12 0) 0 f) ∷ [])) (ne_eqb (length f) 0 (λ e. omega (arith, h.some)))
     ∙ ap (λ (x : List ℕ). x ∷ []) (front f h.short)
@@ -104,35 +105,35 @@ module _ (b : List ℕ) (fs : List (List ℕ)) (opens : opened_for Read b ≡ ho
 
   -- a step on the frames, and the run behind it
   stepped : (st next : State) (out : List (List ℕ)) (s : List ℕ) (ss : List (List ℕ)) → next ≡ heard_on n st (is_good s)
-      → handed (sends_of fs st).turn (sends_of fs st).frame ≡ out
+      → handed (Ok (sends_of fs st)) ≡ out
       → run b st (s ∷ ss) ≡ record { sent = out ++ (run b next ss).sent; state = (run b next ss).state }
   unfolding run
   stepped st next out s ss e h =
       ap (λ (q : Contents). record {
-        sent = handed (sending_of q st).turn (sending_of q st).frame ++ (run b (kept st (heard_of q st (is_good s))) ss).sent;
+        sent = handed (sending_of q st) ++ (run b (kept st (heard_of q st (is_good s))) ss).sent;
         state = (run b (kept st (heard_of q st (is_good s))) ss).state;
       }) opens
       ∙ ap₂ (λ (x : List (List ℕ)) (y : State). record { sent = x ++ (run b y ss).sent; state = (run b y ss).state }) h (sym e)
 
   -- a state that a step keeps, and in which none sends, stays for good
-  stays : (st : State) → ((s : List ℕ) → st ≡ heard_on n st (is_good s)) → handed (sends_of fs st).turn (sends_of fs st).frame ≡ []
+  stays : (st : State) → ((s : List ℕ) → st ≡ heard_on n st (is_good s)) → handed (Ok (sends_of fs st)) ≡ []
       → (ss : List (List ℕ)) → run b st ss ≡ still st
   unfolding run
   stays st e h [] = refl
   stays st e h (s ∷ ss) = stepped st st [] s ss (e s) h ∙ stays st e h ss
 
-  silent : (st : State) (x : Sending) → x ≡ sends_of fs st → handed x.turn x.frame ≡ [] → handed (sends_of fs st).turn (sends_of fs st).frame ≡ []
-  silent st x e h = ap (λ (y : Sending). handed y.turn y.frame) (sym e) ∙ h
+  silent : (st : State) → None ≡ sends_of fs st → handed (Ok (sends_of fs st)) ≡ []
+  silent st e = ap (λ (y : Option Sending). handed (Ok y)) (sym e)
 
   pub done-stays : (ss : List (List ℕ)) → run b state.Done ss ≡ still state.Done
-  done-stays = stays state.Done (λ s. heard-done n (is_good s)) (silent state.Done _ (sends-done fs) refl)
+  done-stays = stays state.Done (λ s. heard-done n (is_good s)) (silent state.Done (sends-done fs))
 
   pub stopped-stays : (p : ℕ) (ss : List (List ℕ)) → run b (state.Stopped p) ss ≡ still (state.Stopped p)
-  stopped-stays p = stays (state.Stopped p) (λ s. heard-stopped n (is_good s) p) (silent (state.Stopped p) _ (sends-stopped fs p) refl)
+  stopped-stays p = stays (state.Stopped p) (λ s. heard-stopped n (is_good s) p) (silent (state.Stopped p) (sends-stopped fs p))
 
   -- nothing is left to do
   over-stays : (j : ℕ) → is_over n j ≡ true → (ss : List (List ℕ)) → run b (state.Running j) ss ≡ still (state.Running j)
-  over-stays j e = stays (state.Running j) (λ s. heard-over n (is_good s) j e) (silent (state.Running j) _ (sends-over fs j e) refl)
+  over-stays j e = stays (state.Running j) (λ s. heard-over n (is_good s) j e) (silent (state.Running j) (sends-over fs j e))
 
   -- a state that no run reaches: more frames sent than there are, or any in an empty book
   pub past-stays : (j : ℕ) → n < j → (ss : List (List ℕ)) → run b (state.Running j) ss ≡ still (state.Running j)
@@ -145,16 +146,16 @@ module _ (b : List ℕ) (fs : List (List ℕ)) (opens : opened_for Read b ≡ ho
 
   module _ (fit : Fits fs) (some : 0 < n) where
     -- the step of a running controller hands out the frame behind those that are sent, or none
-    handed-step : (j : ℕ) → j ≤ n → handed (sends_of fs (state.Running j)).turn (sends_of fs (state.Running j)).frame ≡ take 1 (drop j fs)
-    handed-step j k = ap (λ (x : Sending). handed x.turn x.frame) (sym (sends-next fs j some k)) ∙ by (ltb j n) refl
+    handed-step : (j : ℕ) → j ≤ n → handed (Ok (sends_of fs (state.Running j))) ≡ take 1 (drop j fs)
+    handed-step j k = ap (λ (x : Option Sending). handed (Ok x)) (sym (sends-next fs j some k)) ∙ by (ltb j n) refl
       where
-        by : (t : Bool) → ltb j n ≡ t → handed (sends (get_or fs j [])).turn (sends (get_or fs j [])).frame ≡ take 1 (drop j fs)
+        by : (t : Bool) → ltb j n ≡ t → handed (Ok (sends (get_or fs j []))) ≡ take 1 (drop j fs)
         by true e =
             let i : j < n = ltb-true j n e in
             handed-frame (get_or fs j []) (fit_at fs fit j i) ∙ sym (ap (take 1) (drop-cons fs j [] i))
         by false e =
             let i : n ≤ j = ltb-false j n e in
-            ap (λ (f : List ℕ). handed (sends f).turn (sends f).frame) (get_or-eq_default fs [] {n = j} i) ∙ sym (none_from fs j i)
+            ap (λ (f : List ℕ). handed (Ok (sends f))) (get_or-eq_default fs [] {n = j} i) ∙ sym (none_from fs j i)
 
     -- what a run comes to, j of the frames being sent already
     record Comes (j steps : ℕ) (v : Verdict) (r : Run) : Type 0 where

@@ -19,10 +19,9 @@ use Rattle.book.specs.Book.{Read, longest_reel, opened_for}
 use Rattle.book.proofs.Told.{Replayed}
 use Rattle.controller.specs.declared.State.{State}
 use Rattle.controller.specs.declared.State.TheVariants as state
-use Rattle.std.specs.Prelude.{Err, Ok}
+use Rattle.std.specs.Prelude.{None, Ok, Option, Some}
 use Rattle.controller.specs.declared.Sending.{Sending}
-use Rattle.controller.specs.declared.Turn.TheVariants as turn
-use Rattle.controller.specs.Controller.{LiesAt, bare, heard_of, heard_on, is_over, judged_by, onward_of, sending_of, sends, sends_of, start_of}
+use Rattle.controller.specs.Controller.{LiesAt, heard_of, heard_on, is_over, judged_by, onward_of, reads, sending_of, sends, sends_of, start_of}
 
 -- when nothing is left to do, in numbers: in a book of no frames, and past the final read; and when something is
 pub over_none : (n sent : ℕ) → n ≡ 0 → is_over n sent ≡ true
@@ -78,9 +77,9 @@ module _ (n : ℕ) (good : Bool) where
 
 -- the bytes between a frame's bounds, with zeros behind them
 spans-sends : (reel f : List ℕ) (start end : ℕ) → LiesAt reel f start end → (frame : List ℕ)
-    → frame ≡ written (replicate 12 0) 0 (take (end - start) (drop start reel)) → record { turn = turn.Sends (end - start); frame = frame } ≡ sends f
+    → frame ≡ written (replicate 12 0) 0 (take (end - start) (drop start reel)) → Some (record { len = end - start; frame = frame }) ≡ sends f
 spans-sends reel f start end p frame e =
-    ap₂ (λ (n : ℕ) (x : List ℕ). record { turn = turn.Sends n; frame = x }) size (e ∙ ap (written (replicate 12 0) 0) p.bytes)
+    ap₂ (λ (n : ℕ) (x : List ℕ). Some (record { len = n; frame = x })) size (e ∙ ap (written (replicate 12 0) 0) p.bytes)
   where
     size : end - start ≡ length f
     size =
@@ -92,35 +91,35 @@ written_none : (o : List ℕ) → o ≡ written o 0 []
 written_none o = paste-zero o 0 [] ∙ sym (written-fits o 0 [] (omega arith))
 
 module _ (fs : List (List ℕ)) where
-  pub sends-by : (st x : State) (y : Sending) → st ≡ x → y ≡ sends_of fs x → y ≡ sends_of fs st
+  pub sends-by : (st x : State) (y : Option Sending) → st ≡ x → y ≡ sends_of fs x → y ≡ sends_of fs st
   sends-by st x y e h = h ∙ sym (ap (sends_of fs) e)
 
-  pub sends-done : bare turn.Over ≡ sends_of fs state.Done
+  pub sends-done : None ≡ sends_of fs state.Done
   unfolding sends_of
   sends-done = refl
 
-  pub sends-stopped : (p : ℕ) → bare turn.Over ≡ sends_of fs (state.Stopped p)
+  pub sends-stopped : (p : ℕ) → None ≡ sends_of fs (state.Stopped p)
   unfolding sends_of
   sends-stopped p = refl
 
   module _ (sent : ℕ) where
-    pub sends-over : is_over (length fs) sent ≡ true → bare turn.Over ≡ sends_of fs (state.Running sent)
+    pub sends-over : is_over (length fs) sent ≡ true → None ≡ sends_of fs (state.Running sent)
     unfolding sends_of
-    sends-over e = sym (ap (λ (t : Bool). cond t (bare turn.Over) (sends (get_or fs sent []))) e)
+    sends-over e = sym (ap (λ (t : Bool). cond t None (sends (get_or fs sent []))) e)
 
     pub sends-next : 0 < length fs → sent ≤ length fs → sends (get_or fs sent []) ≡ sends_of fs (state.Running sent)
     unfolding sends_of
-    sends-next h k = sym (ap (λ (t : Bool). cond t (bare turn.Over) (sends (get_or fs sent []))) (going (length fs) sent h k))
+    sends-next h k = sym (ap (λ (t : Bool). cond t None (sends (get_or fs sent []))) (going (length fs) sent h k))
 
     pub sends-frame : sent < length fs → (reel : List ℕ) (start end : ℕ) → LiesAt reel (get_or fs sent []) start end → (frame : List ℕ)
         → frame ≡ written (replicate 12 0) 0 (take (end - start) (drop start reel))
-        → record { turn = turn.Sends (end - start); frame = frame } ≡ sends_of fs (state.Running sent)
+        → Some (record { len = end - start; frame = frame }) ≡ sends_of fs (state.Running sent)
     sends-frame h reel start end p frame e = spans-sends reel (get_or fs sent []) start end p frame e ∙ sends-next (omega arith) (omega arith)
 
     -- no byte at the final read
-    pub sends-read : 0 < sent → sent ≡ length fs → bare (turn.Sends 0) ≡ sends_of fs (state.Running sent)
+    pub sends-read : 0 < sent → sent ≡ length fs → reads ≡ sends_of fs (state.Running sent)
     sends-read h e =
-        ap (λ (x : List ℕ). record { turn = turn.Sends 0; frame = x }) (written_none (replicate 12 0))
+        ap (λ (x : List ℕ). Some (record { len = 0; frame = x })) (written_none (replicate 12 0))
         ∙ ap sends (sym (get_or-eq_default fs [] {n = sent} (omega arith)))
         ∙ sends-next (omega arith) (omega arith)
 
@@ -158,9 +157,9 @@ module _ (b out : List ℕ) (n : ℕ) (T : Replayed b out n) where
       ∙ ap (λ (t : Bool). Ok (cond t state.Done (state.Running 0)))
       (ne_eqb (length T.frames) 0 (some-frames T.frames (λ e. z (T.size ∙ e)))))
 
-  pub send-told : (st : State) (r : Sending) → r ≡ sends_of (unreel (take (n - 0) out)).frames st → r ≡ sending_of (opened_for Read b) st
+  pub send-told : (st : State) (r : Option Sending) → r ≡ sends_of (unreel (take (n - 0) out)).frames st → Ok r ≡ sending_of (opened_for Read b) st
   send-told st r k =
-      k ∙ ap (λ (x : List (List ℕ)). sends_of x st) frames-told ∙ sym (ap (λ (q : Contents). sending_of q st) T.opens)
+      ap (λ (x : Option Sending). Ok x) (k ∙ ap (λ (x : List (List ℕ)). sends_of x st) frames-told) ∙ sym (ap (λ (q : Contents). sending_of q st) T.opens)
 
   pub hear-told : (st : State) (good right : Bool) (r : State) → r ≡ heard_on (length (unreel (take (n - 0) out)).frames) st good → good ≡ right
       → Ok r ≡ heard_of (opened_for Read b) st right

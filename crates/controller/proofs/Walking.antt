@@ -3,6 +3,7 @@
 use mathlib.Core.Path.{ap, refl, subst, sym, ◌∙◌, ◌≡◌}
 use mathlib.Core.Bool.{Bool, cond, false, true}
 use mathlib.Core.List.{List, [], ◌∷◌}
+use mathlib.Core.Logic.{inl, inr, ◌⊎◌}
 use Prim.Native.Nat.{suc, zero, ℕ, ◌+◌, ◌-◌, ◌<◌, ◌≤◌}
 use native.Mathlib.Omega.{arith}
 use borrow.Author.Tests.{ltb-false, ltb-true}
@@ -86,10 +87,10 @@ module _ (reel : List ℕ) (sent at left : ℕ) (g : Seeking reel sent at left) 
       by false p false q =
           over_none (length (unreel reel).frames) sent (omega (arith, many, ltb-false 0 left p, ltb-false 0 sent q))
 
-  pub left_ended : Ended reel at → (a : Ahead) → a ≡ behind_of sent left → Lies reel (unreel reel).frames sent a
+  left_ended : Ended reel at → (a : Ahead) → a ≡ behind_of sent left → Lies reel (unreel reel).frames sent a
   left_ended e = nothing_left (ap (λ (u : Unreeled). u.frames) e.made)
 
-  pub left_cut : (why : _) → Cut reel at why → (a : Ahead) → a ≡ behind_of sent left → Lies reel (unreel reel).frames sent a
+  left_cut : (why : _) → Cut reel at why → (a : Ahead) → a ≡ behind_of sent left → Lies reel (unreel reel).frames sent a
   left_cut why k = nothing_left (ap (λ (u : Unreeled). u.frames) k.made)
 
 -- ---- what a caller learns

@@ -1,6 +1,6 @@
 -- What a step of the controller sends, and where it leaves the controller (REFERENCE, "Controller").
 -- Assumes nothing.
-use Rattle.std.specs.Prelude.{◌≡◌, ℕ, ◌+◌, ◌-◌, ◌<◌, ◌≤◌, Bool, cond, false, true, List, [], eqb, ltb, drop, get_or, length, replicate, take, Result, Ok, Err}
+use Rattle.std.specs.Prelude.{◌≡◌, ℕ, ◌+◌, ◌-◌, ◌<◌, ◌≤◌, Bool, cond, false, true, List, [], eqb, ltb, drop, get_or, length, replicate, take, Option, None, Some, Result, Ok, Err}
 use Rattle.refusal.specs.declared.Refusal.{Refusal}
 use Rattle.status.specs.declared.CmdStatus.{CmdStatus}
 use Rattle.status.specs.declared.CmdStatus.TheVariants as cmd
@@ -10,8 +10,6 @@ use Rattle.contents.specs.Contents.{Contents, holds, refused}
 use Rattle.controller.specs.declared.State.{State}
 use Rattle.controller.specs.declared.State.TheVariants as state
 use Rattle.controller.specs.declared.Sending.{Sending}
-use Rattle.controller.specs.declared.Turn.{Turn}
-use Rattle.controller.specs.declared.Turn.TheVariants as turn
 use Rattle.controller.specs.declared.Ahead.{Ahead}
 use Rattle.controller.specs.declared.Ahead.TheVariants as ahead
 
@@ -50,19 +48,19 @@ heard_on n (state.Stopped p) good = state.Stopped p
 
 -- ---- what is sent
 
--- zeros alone
-abbrev pub bare : Turn → Sending
-bare t = record { turn = t; frame = replicate 12 0 }
-
 -- a frame, with zeros behind it; no bytes are the final read
-abbrev pub sends : List ℕ → Sending
-sends f = record { turn = turn.Sends (length f); frame = written (replicate 12 0) 0 f }
+abbrev pub sends : List ℕ → Option Sending
+sends f = Some (record { len = length f; frame = written (replicate 12 0) 0 f })
+
+-- the final read: zeros alone
+abbrev pub reads : Option Sending
+reads = Some (record { len = 0; frame = replicate 12 0 })
 
 -- The frames go out in their order; behind the last one the final read sends no byte.
-unfoldable pub sends_of : List (List ℕ) → State → Sending
-sends_of fs (state.Running sent) = cond (is_over (length fs) sent) (bare turn.Over) (sends (get_or fs sent []))
-sends_of fs state.Done = bare turn.Over
-sends_of fs (state.Stopped p) = bare turn.Over
+unfoldable pub sends_of : List (List ℕ) → State → Option Sending
+sends_of fs (state.Running sent) = cond (is_over (length fs) sent) None (sends (get_or fs sent []))
+sends_of fs state.Done = None
+sends_of fs (state.Stopped p) = None
 
 -- ---- over a book as a read finds it: its own refusals come first, whatever the state is
 
@@ -75,9 +73,13 @@ abbrev pub start_of : Contents → Answer
 start_of (refused x) = Err x
 start_of (holds fs) = Ok (cond (eqb (length fs) 0) state.Done (state.Running 0))
 
-abbrev pub sending_of : Contents → State → Sending
-sending_of (refused x) st = bare (turn.Refused x)
-sending_of (holds fs) st = sends_of fs st
+-- what is sent, none where the work is over; or why the book is refused
+abbrev pub Turn : Type 0
+Turn = Result (Option Sending) Refusal
+
+abbrev pub sending_of : Contents → State → Turn
+sending_of (refused x) st = Err x
+sending_of (holds fs) st = Ok (sends_of fs st)
 
 abbrev pub heard_of : Contents → State → Bool → Answer
 heard_of (refused x) st good = Err x

@@ -1,20 +1,16 @@
 -- A run of the controller: a step for each status, one after the other, on a book whose bytes stay as they are (REFERENCE, "Controller").
 -- Assumes nothing.
-use Rattle.std.specs.Prelude.{◌≡◌, ℕ, ◌<◌, ◌≤◌, Bool, cond, false, true, List, [], ◌++◌, ◌∷◌, eqb, get_or, length, take}
+use Rattle.std.specs.Prelude.{◌≡◌, ℕ, ◌<◌, ◌≤◌, Bool, cond, false, true, List, [], ◌++◌, ◌∷◌, eqb, get_or, length, take, None, Some, Err, Ok}
 use Rattle.book.specs.Book.{Read, opened_for}
 use Rattle.controller.specs.declared.State.{State}
 use Rattle.controller.specs.declared.State.TheVariants as state
-use Rattle.controller.specs.Controller.{Answer}
-use Rattle.std.specs.Prelude.{Err, Ok}
-use Rattle.controller.specs.declared.Turn.{Turn}
-use Rattle.controller.specs.declared.Turn.TheVariants as turn
-use Rattle.controller.specs.Controller.{heard_of, is_good, sending_of}
+use Rattle.controller.specs.Controller.{Answer, Turn, heard_of, is_good, sending_of}
 
 -- the frame that a step sends, if it sends any byte
-abbrev pub handed : Turn → List ℕ → List (List ℕ)
-handed (turn.Sends n) bytes = cond (eqb n 0) [] (take n bytes ∷ [])
-handed turn.Over bytes = []
-handed (turn.Refused x) bytes = []
+abbrev pub handed : Turn → List (List ℕ)
+handed (Ok (Some s)) = cond (eqb s.len 0) [] (take s.len s.frame ∷ [])
+handed (Ok None) = []
+handed (Err x) = []
 
 -- the state that a caller has behind an answer: a refusal keeps it
 abbrev pub kept : State → Answer → State
@@ -36,7 +32,7 @@ unfoldable pub run : List ℕ → State → List (List ℕ) → Run
 run b st [] = record { sent = []; state = st }
 run b st (s ∷ ss) =
     record {
-      sent = handed (sending_of (opened_for Read b) st).turn (sending_of (opened_for Read b) st).frame
+      sent = handed (sending_of (opened_for Read b) st)
           ++ (run b (kept st (heard_of (opened_for Read b) st (is_good s))) ss).sent;
       state = (run b (kept st (heard_of (opened_for Read b) st (is_good s))) ss).state;
     }

@@ -6,7 +6,7 @@
 ghost use Rattle.std.specs.Prelude.{◌≡◌, length};
 ghost use Rattle.reel.specs.Reel.{unreel};
 ghost use Rattle.book.specs.Book.{Read, opened_for};
-ghost use Rattle.controller.specs.Controller.{Lies, bare, behind_of, goes_on, heard_of, heard_on, is_good, judged_by, sending_of, sends_of, start_of};
+ghost use Rattle.controller.specs.Controller.{Lies, behind_of, goes_on, heard_of, heard_on, is_good, judged_by, sending_of, sends_of, start_of};
 
 use reel::Cursor;
 use refusal::Refusal;
@@ -23,20 +23,15 @@ pub enum State {
 // The state as it is now, or why the book is refused; then the state is what it was.
 pub type Answer = Result<State, Refusal>;
 
-// What a step sends: so many bytes, 0 for the final empty read; nothing, where the work is over; or why the book is refused.
-#[derive(Clone, Copy)]
-pub enum Turn {
-    Sends(usize),
-    Over,
-    Refused(Refusal),
-}
-
-// The bytes that a step sends stand first, zeros behind them.
+// So many bytes are sent, 0 for the final empty read. They stand first, zeros behind them.
 #[derive(Clone, Copy)]
 pub struct Sending {
-    pub turn: Turn,
+    pub len: usize,
     pub frame: [u8; 12],
 }
+
+// What a step sends, None where the work is over; or why the book is refused.
+pub type Turn = Result<Option<Sending>, Refusal>;
 
 // What comes behind so many frames of a reel: a frame, the final read, or nothing.
 #[derive(Clone, Copy)]
@@ -50,10 +45,7 @@ enum Ahead {
 fn behind(sent: usize, left: usize) -> Ahead
     ensures { result ≡ behind_of sent left }
 {
-    if 0 < left {
-        return Ahead::Nothing;
-    }
-    if 0 < sent {
+    if left == 0 && 0 < sent {
         return Ahead::Read;
     }
     Ahead::Nothing
@@ -92,18 +84,8 @@ pub fn start(book: &[u8]) -> Answer
     Ok(State::Running(0))
 }
 
-// No bytes.
-fn empty(turn: Turn) -> Sending
-    ensures { result ≡ bare turn }
-{
-    Sending {
-        turn,
-        frame: [0u8; 12],
-    }
-}
-
 // What the step sends, of the frames of a reel.
-fn to_send(state: State, reel: &[u8]) -> Sending
+fn to_send(state: State, reel: &[u8]) -> Option<Sending>
     ensures { result ≡ sends_of (unreel reel.now).frames state }
 {
     match state {
@@ -111,52 +93,43 @@ fn to_send(state: State, reel: &[u8]) -> Sending
             Ahead::Frame { start, end } => {
                 let mut frame = [0u8; 12];
                 spans::write(&mut frame, 0, &reel[start..end]);
-                Sending {
-                    turn: Turn::Sends(end - start),
+                Some(Sending {
+                    len: end - start,
                     frame,
-                }
+                })
             }
-            Ahead::Read => empty(Turn::Sends(0)),
-            Ahead::Nothing => empty(Turn::Over),
+            Ahead::Read => Some(Sending {
+                len: 0,
+                frame: [0u8; 12],
+            }),
+            Ahead::Nothing => None,
         },
-        State::Done => empty(Turn::Over),
-        State::Stopped(_) => empty(Turn::Over),
+        State::Done => None,
+        State::Stopped(_) => None,
     }
 }
 
 // What the step sends.
-pub fn send(state: State, book: &[u8]) -> Sending
+pub fn send(state: State, book: &[u8]) -> Turn
     ensures { result ≡ sending_of (opened_for Read book.now) state }
 {
     let mut reel = [0u8; book::LONGEST_REEL];
-    let told = book::replay(book, &mut reel);
-    match told {
-        Ok(n) => to_send(state, &reel[0..n]),
-        Err(why) => empty(Turn::Refused(why)),
-    }
+    let len = book::replay(book, &mut reel)?;
+    Ok(to_send(state, &reel[0..len]))
 }
 
-// Whether the work goes on behind a frame that went so. It is what `Status::is_ok` says, but as a rule of the controller's own, case by case.
+// Whether the work goes on behind a frame that went so. It is what `Status::is_ok` says, but as a rule of the controller's own.
 fn goes_on(cmd: CmdStatus) -> bool
     ensures { result ≡ goes_on cmd }
 {
-    match cmd {
-        CmdStatus::Fail => false,
-        CmdStatus::PErr => false,
-        CmdStatus::Ok => true,
-        CmdStatus::Data => true,
-        CmdStatus::Unknown => false,
-    }
+    matches!(cmd, CmdStatus::Ok | CmdStatus::Data)
 }
 
 // The state behind a step, `next` where it stops nothing. The first status comes back with the first frame, and so judges none.
 fn judged(sent: usize, good: bool, next: State) -> State
     ensures { result ≡ judged_by sent good next }
 {
-    if sent == 0 {
-        return next;
-    }
-    if good {
+    if sent == 0 || good {
         return next;
     }
     State::Stopped(sent)

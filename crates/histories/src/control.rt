@@ -4,7 +4,7 @@ ghost use Rattle.std.specs.Prelude.{◌≡◌, ◌≤◌, length};
 
 use crate::record;
 use book::Answer;
-use controller::{Sending, State, Turn};
+use controller::{State, Turn};
 use texts::put_text;
 
 // Where the outcome stands, and where the status starts.
@@ -62,15 +62,16 @@ fn going(over: u8, n: usize, frame: &[u8; 12], lent: &mut [u8]) -> Answer {
     Ok(SENDING)
 }
 
-// Of a send that is refused the twelve bytes are told too.
-fn sent(sending: Sending, lent: &mut [u8]) -> Answer {
-    let turn = sending.turn;
-    let frame = sending.frame;
+// Where nothing is sent twelve zeros are told, of a send that is refused too.
+fn sent(turn: Turn, lent: &mut [u8]) -> Answer {
     match turn {
-        Turn::Sends(n) => going(0, n, &frame, lent),
-        Turn::Over => going(1, 0, &frame, lent),
-        Turn::Refused(why) => {
-            let _told = going(0, 0, &frame, lent);
+        Ok(Some(sending)) => {
+            let frame = sending.frame;
+            going(0, sending.len, &frame, lent)
+        }
+        Ok(None) => going(1, 0, &[0u8; 12], lent),
+        Err(why) => {
+            let _told = going(0, 0, &[0u8; 12], lent);
             Err(why)
         }
     }

@@ -16,11 +16,9 @@ use Rattle.contents.specs.Contents.{Contents, holds, refused}
 use Rattle.book.specs.Book.{Read, opened_for}
 use Rattle.controller.specs.declared.State.{State}
 use Rattle.controller.specs.declared.State.TheVariants.{Done, Running, Stopped}
-use Rattle.controller.specs.Controller.{Answer}
-use Rattle.std.specs.Prelude.{Err, Ok}
-use Rattle.controller.specs.declared.Turn.{Turn}
-use Rattle.controller.specs.declared.Turn.TheVariants as turn
-use Rattle.controller.specs.Controller.{heard_of, heard_on, is_good, is_over, sending_of, sends_of, start_of}
+use Rattle.std.specs.Prelude.{Err, None, Ok, Some}
+use Rattle.controller.specs.declared.Sending.{Sending}
+use Rattle.controller.specs.Controller.{Answer, Turn, heard_of, heard_on, is_good, is_over, sending_of, sends_of, start_of}
 use Rattle.controller.specs.Runs.{kept}
 use Rattle.controller.proofs.Steps.{heard-over, over_none, over-past}
 use Rattle.controller.proofs.Laws.{done-sends, refused-numbers, refused-own, sends-short}
@@ -41,10 +39,10 @@ abbrev pub HearSays : HbController → Answer → HbControl → Type 0
 HearSays c (Ok st) r = (r.refusal ≡ 0) × (r.place ≡ 0)
 HearSays c (Err x) r = (r.refusal ≡ number_of x) × (r.place ≡ 0) × (r.state ≡ c)
 
-abbrev pub SendSays : Turn → List ℕ → HbSending → Type 0
-SendSays (turn.Sends n) f r = (r.refusal ≡ 0) × (r.place ≡ 0) × (r.over ≡ 0) × (r.len ≡ n) × (r.bytes ≡ f)
-SendSays turn.Over f r = (r.refusal ≡ 0) × (r.place ≡ 0) × (r.over ≡ 1) × (r.len ≡ 0) × (r.bytes ≡ f)
-SendSays (turn.Refused x) f r = (r.refusal ≡ number_of x) × (r.place ≡ 0) × (r.over ≡ 0) × (r.len ≡ 0) × (r.bytes ≡ f)
+abbrev pub SendSays : Turn → HbSending → Type 0
+SendSays (Ok (Some s)) r = (r.refusal ≡ 0) × (r.place ≡ 0) × (r.over ≡ 0) × (r.len ≡ s.len) × (r.bytes ≡ s.frame)
+SendSays (Ok None) r = (r.refusal ≡ 0) × (r.place ≡ 0) × (r.over ≡ 1) × (r.len ≡ 0) × (r.bytes ≡ replicate 12 0)
+SendSays (Err x) r = (r.refusal ≡ number_of x) × (r.place ≡ 0) × (r.over ≡ 0) × (r.len ≡ 0) × (r.bytes ≡ replicate 12 0)
 
 -- a book's own refusal has no place
 own-place : (b : List ℕ) (x : Refusal) → opened_for Read b ≡ refused x → low (place_of x) ≡ 0
@@ -66,15 +64,14 @@ hear-handed b c s = by (heard_of (opened_for Read b) (state_of c) (is_good s)) (
     by (Err x) h = (refl, own-place b x (h x refl), refl)
 
 pub send-handed : (b : List ℕ) (st : State)
-    → SendSays (sending_of (opened_for Read b) st).turn (sending_of (opened_for Read b) st).frame (sending_c (sending_of (opened_for Read b) st))
-send-handed b st =
-    by (sending_of (opened_for Read b) st).turn (sending_of (opened_for Read b) st).frame (λ n. sends-short b st n) (λ x. (refused-own b x st []).1)
+    → SendSays (sending_of (opened_for Read b) st) (sending_c (sending_of (opened_for Read b) st))
+send-handed b st = by (sending_of (opened_for Read b) st) (λ s. sends-short b st s) (λ x. (refused-own b x st []).1)
   where
-    by : (t : Turn) (f : List ℕ) → ((n : ℕ) → t ≡ turn.Sends n → n ≤ 12) → ((x : Refusal) → t ≡ turn.Refused x → opened_for Read b ≡ refused x)
-        → SendSays t f (sending_c (record { turn = t; frame = f }))
-    by (turn.Sends n) f k h = (refl, refl, refl, low_small n (omega (arith, k n refl)), refl)
-    by turn.Over f k h = (refl, refl, refl, refl, refl)
-    by (turn.Refused x) f k h = (refl, own-place b x (h x refl), refl, refl, refl)
+    by : (t : Turn) → ((s : Sending) → t ≡ Ok (Some s) → s.len ≤ 12) → ((x : Refusal) → t ≡ Err x → opened_for Read b ≡ refused x)
+        → SendSays t (sending_c t)
+    by (Ok (Some s)) k h = (refl, refl, refl, low_small s.len (omega (arith, k s refl)), refl)
+    by (Ok None) k h = (refl, refl, refl, refl, refl)
+    by (Err x) k h = (refl, own-place b x (h x refl), refl, refl, refl)
 
 pub outcomes : (state_c (Running 3) ≡ record { outcome = 0; count = 3 }) × (state_c Done ≡ record { outcome = 1; count = 0 })
     × (state_c (Stopped 2) ≡ record { outcome = 2; count = 2 }) × ((start_c (Err NotWellFormed)).state ≡ record { outcome = 1; count = 0 })

@@ -1,18 +1,13 @@
 -- The controller's state, its answer and what it sends, as C has them (REFERENCE, "Controller"). proofs/States.antt says that nothing is cut.
 -- Assumes nothing.
-use Rattle.std.specs.Prelude.{ℕ, cond, eqb}
+use Rattle.std.specs.Prelude.{cond, eqb, replicate, None, Some, Err, Ok}
 use Rattle.controller.specs.declared.State.{State}
 use Rattle.controller.specs.declared.State.TheVariants.{Done, Running, Stopped}
-use Rattle.controller.specs.Controller.{Answer}
-use Rattle.std.specs.Prelude.{Err, Ok}
-use Rattle.controller.specs.declared.Sending.{Sending}
-use Rattle.controller.specs.declared.Turn.{Turn}
-use Rattle.controller.specs.declared.Turn.TheVariants as turn
-use Rattle.hoardbutton.specs.declared.answers.HbAnswer.{HbAnswer}
+use Rattle.controller.specs.Controller.{Answer, Turn}
 use Rattle.hoardbutton.specs.declared.controllers.HbController.{HbController}
 use Rattle.hoardbutton.specs.declared.controllers.HbControl.{HbControl}
 use Rattle.hoardbutton.specs.declared.controllers.HbSending.{HbSending}
-use Rattle.hoardbutton.specs.Answers.{done_c, low, refused_c}
+use Rattle.hoardbutton.specs.Answers.{low, refused_c}
 
 -- ---- the state
 
@@ -42,22 +37,7 @@ hear_c c (Err x) = record { refusal = (refused_c x).refusal; place = (refused_c 
 
 -- ---- what is sent: over is 1 where nothing is left to do; no bytes, and not over, is the final read
 
-abbrev pub turn_c : Turn → HbAnswer
-turn_c (turn.Sends n) = done_c n
-turn_c turn.Over = done_c 0
-turn_c (turn.Refused x) = refused_c x
-
-abbrev pub over_c : Turn → ℕ
-over_c (turn.Sends n) = 0
-over_c turn.Over = 1
-over_c (turn.Refused x) = 0
-
-abbrev pub sending_c : Sending → HbSending
-sending_c s =
-    record {
-      refusal = (turn_c s.turn).refusal;
-      place = (turn_c s.turn).place;
-      over = over_c s.turn;
-      len = low (turn_c s.turn).value;
-      bytes = s.frame;
-    }
+abbrev pub sending_c : Turn → HbSending
+sending_c (Ok (Some s)) = record { refusal = 0; place = 0; over = 0; len = low s.len; bytes = s.frame }
+sending_c (Ok None) = record { refusal = 0; place = 0; over = 1; len = 0; bytes = replicate 12 0 }
+sending_c (Err x) = record { refusal = (refused_c x).refusal; place = (refused_c x).place; over = 0; len = 0; bytes = replicate 12 0 }

@@ -2,10 +2,10 @@
 ghost use Rattle.std.specs.Prelude.{◌≡◌};
 ghost use Rattle.book.specs.Book.{Read, opened_for};
 ghost use Rattle.controller.specs.Controller.{heard_of, is_good, sending_of, start_of};
-ghost use Rattle.hoardbutton.specs.Controllers.{behind_c, hear_c, over_c, sending_c, start_c, state_c, state_of, turn_c};
+ghost use Rattle.hoardbutton.specs.Controllers.{behind_c, hear_c, sending_c, start_c, state_c, state_of};
 
-use crate::answers::{HbAnswer, done, low, refused};
-use controller::{Answer, Sending, State, Turn};
+use crate::answers::{low, refused};
+use controller::{Answer, State, Turn};
 
 // Outcome 0: running, count frames are sent; 1: done; 2: stopped at frame count, from 1; any other: ended.
 #[repr(C)]
@@ -99,38 +99,37 @@ pub extern "C" fn hb_controller_start(book: &[u8]) -> HbControl
     started(controller::start(book))
 }
 
-fn turn_told(turn: Turn) -> HbAnswer
-    ensures { result ≡ turn_c turn }
+fn sent(turn: Turn) -> HbSending
+    ensures { result ≡ sending_c turn }
 {
     match turn {
-        Turn::Sends(n) => done(n as u64),
-        Turn::Over => done(0),
-        Turn::Refused(why) => refused(why),
-    }
-}
-
-fn is_over(turn: Turn) -> u32
-    ensures { result ≡ over_c turn }
-{
-    match turn {
-        Turn::Sends(_) => 0,
-        Turn::Over => 1,
-        Turn::Refused(_) => 0,
-    }
-}
-
-fn sent(s: Sending) -> HbSending
-    ensures { result ≡ sending_c s }
-{
-    let turn = s.turn;
-    let bytes = s.frame;
-    let told = turn_told(turn);
-    HbSending {
-        refusal: told.refusal,
-        place: told.place,
-        over: is_over(turn),
-        len: low(told.value),
-        bytes,
+        Ok(Some(sending)) => {
+            let bytes = sending.frame;
+            HbSending {
+                refusal: 0,
+                place: 0,
+                over: 0,
+                len: low(sending.len as u64),
+                bytes,
+            }
+        }
+        Ok(None) => HbSending {
+            refusal: 0,
+            place: 0,
+            over: 1,
+            len: 0,
+            bytes: [0u8; 12],
+        },
+        Err(why) => {
+            let said = refused(why);
+            HbSending {
+                refusal: said.refusal,
+                place: said.place,
+                over: 0,
+                len: 0,
+                bytes: [0u8; 12],
+            }
+        }
     }
 }
 

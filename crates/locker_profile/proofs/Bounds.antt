@@ -5,8 +5,9 @@ use mathlib.Core.Path.{refl, subst, ◌≡◌}
 use mathlib.Core.Bool.{Bool, cond, false, true}
 use mathlib.Core.List.{List}
 use mathlib.Core.Logic.{inl, inr, ◌⊎◌}
-use Prim.Native.Nat.{ℕ, suc, zero, ◌≤◌}
+use Prim.Native.Nat.{ℕ, ◌≤◌}
 use native.Mathlib.Omega.{arith}
+use Rattle.std.specs.Prelude.{None, Ok, Option, Some}
 use Rattle.refusal.specs.declared.Refusal.{Refusal}
 use Rattle.refusal.specs.declared.Refusal.TheVariants.{SettingMissing}
 use Rattle.refusal.specs.Numbers.{number_of, place_of}
@@ -14,7 +15,7 @@ use Rattle.contents.specs.Contents.{Contents, holds, refused}
 use Rattle.contents.proofs.Places.{judge-own, judge-place}
 use Rattle.book.specs.Book.{Read, layout_in, opened_for}
 use Rattle.book.proofs.Places.{opened_for-says}
-use Rattle.locker_profile.specs.Profile.{Answer, Broken, Refused, Yes, answer_for, answered, holds_all, judged, lora_in, profile_of, profiled}
+use Rattle.locker_profile.specs.Profile.{Answer, Broken, Refused, Yes, answer_for, answered, holds_all, lora_in, profile_of, profiled}
 use Rattle.locker_profile.specs.declared.Lora.{Lora}
 use Rattle.locker_profile.specs.Rules.{first_broken, rules}
 use Rattle.locker_profile.proofs.Rules.{place-most}
@@ -26,9 +27,9 @@ module _ (R : ℕ → Type 0) (P : Refusal → Type 0) (rule : (n : ℕ) → 1 �
   Says (Broken n) = R n
   Says (Refused x) = P x
 
-  judged-says : (n : ℕ) (x : Lora) → first_broken 1 rules x ≡ n → Says (judged n)
-  judged-says zero x e = tt
-  judged-says (suc n) x e = let b = place-most 1 n rules x e in rule (suc n) b.0 (omega (arith, b.1))
+  judged-says : (n : Option ℕ) (x : Lora) → first_broken 1 rules x ≡ n → Says (Ok n)
+  judged-says None x e = tt
+  judged-says (Some n) x e = let b = place-most 1 n rules x e in rule n b.0 (omega (arith, b.1))
 
   profiled-says : (c : Contents) → ((x : Refusal) → c ≡ refused x → P x) → Says (profiled c)
   unfolding profile_of

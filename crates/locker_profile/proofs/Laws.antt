@@ -14,7 +14,7 @@ use mathlib.Core.Path.{ap, refl, subst, sym, ◌∙◌, ◌≡◌}
 use mathlib.Core.Bool.{Bool, false, true}
 use mathlib.Core.List.{List, [], ◌∷◌}
 use mathlib.Core.Logic.{inl, inr, ◌⊎◌}
-use Prim.Native.Nat.{ℕ, suc, zero, ◌+◌, ◌<◌}
+use Prim.Native.Nat.{ℕ, ◌+◌, ◌<◌}
 use native.Mathlib.Omega.{arith}
 use lib.ListN.{length, take}
 use Rattle.refusal.specs.declared.Refusal.{Refusal}
@@ -27,10 +27,10 @@ use Rattle.decoder.specs.Decoding.{decode}
 use Rattle.builder.specs.Building.{checked, makes}
 use Rattle.codec.proofs.Laws.{decode-checked}
 use Rattle.table.specs.Table.{settings}
-use Rattle.std.specs.Prelude.{Err, Ok, Result}
+use Rattle.std.specs.Prelude.{Err, None, Ok, Option, Result, Some}
 use Rattle.book.specs.Book.{Read, opened_for}
 use Rattle.book.specs.History.{Ask, Heard, after}
-use Rattle.locker_profile.specs.Profile.{Answer, Broken, Refused, Yes, answer_for, answered, frame_for, holds_all, judged, lora_from, lora_in, lora_of, profile_of, profiled}
+use Rattle.locker_profile.specs.Profile.{Answer, Broken, Refused, Yes, answer_for, answered, frame_for, holds_all, lora_from, lora_in, lora_of, profile_of, profiled}
 use Rattle.locker_profile.specs.Rules.{first_broken, rules}
 use Rattle.locker_profile.proofs.Rules.{AllKept, Failing, fails-place, kept-none, none_kept, place-fails}
 use Rattle.locker_profile.specs.Steps.{asked_of, given, missing_for, withheld}
@@ -106,9 +106,9 @@ module _ (b : List ℕ) where
   pub yes-keeps : answer_for b ≡ Yes → Keeping
   yes-keeps e = by (by-book b)
     where
-      all-kept : (w : Whole b) (n : ℕ) → first_broken 1 rules (lora_in w.frames) ≡ n → judged n ≡ Yes → Keeping
-      all-kept w zero q z = record { book = w; kept = none_kept 0 rules (lora_in w.frames) q }
-      all-kept w (suc n) q z = absurd (broken-yes (suc n) z)
+      all-kept : (w : Whole b) (n : Option ℕ) → first_broken 1 rules (lora_in w.frames) ≡ n → ◌≡◌ {A = Answer} (Ok n) Yes → Keeping
+      all-kept w None q z = record { book = w; kept = none_kept 1 rules (lora_in w.frames) q }
+      all-kept w (Some n) q z = absurd (broken-yes n z)
 
       by : Closed b ⊎ (Lacking b ⊎ Whole b) → Keeping
       by (inl c) = absurd (refused-yes c.why (sym (closed-answer c) ∙ e))
@@ -127,10 +127,10 @@ module _ (b : List ℕ) where
   pub broken-breaks : (n : ℕ) → answer_for b ≡ Broken n → Breaking n
   broken-breaks n e = by (by-book b)
     where
-      told : (w : Whole b) (m : ℕ) → first_broken 1 rules (lora_in w.frames) ≡ m → judged m ≡ Broken n → Breaking n
-      told w zero q z = absurd (broken-yes n (sym z))
-      told w (suc m) q z =
-          let same : suc m ≡ n = cc in
+      told : (w : Whole b) (m : Option ℕ) → first_broken 1 rules (lora_in w.frames) ≡ m → ◌≡◌ {A = Answer} (Ok m) (Broken n) → Breaking n
+      told w None q z = absurd (broken-yes n (sym z))
+      told w (Some m) q z =
+          let same : m ≡ n = cc in
           record { book = w; first = subst (λ (i : ℕ). Failing 1 i rules (lora_in w.frames)) same (place-fails 1 m rules (lora_in w.frames) q) }
 
       by : Closed b ⊎ (Lacking b ⊎ Whole b) → Breaking n
@@ -142,20 +142,16 @@ module _ (b : List ℕ) where
   breaks-broken n k =
       let x = lora_in k.book.frames in
       let f = k.first in
-      let place : first_broken 1 rules x ≡ suc f.before = fails-place 1 f.before rules x f.fails ∙ next f.before in
-      whole-answer k.book ∙ ap judged place ∙ ap (λ (i : ℕ). Broken i) (sym (next f.before) ∙ sym f.there)
-    where
-      next : (i : ℕ) → 1 + i ≡ suc i
-      next i = omega arith
+      whole-answer k.book ∙ ap (λ (o : Option ℕ). Ok o) (fails-place 1 f.before rules x f.fails) ∙ ap (λ (i : ℕ). Broken i) (sym f.there)
 
   -- ---- 22
 
   pub missing-lacks : answer_for b ≡ Refused SettingMissing → Lacking b
   missing-lacks e = by (by-book b)
     where
-      judged-no : (n : ℕ) → judged n ≡ Refused SettingMissing → ⊥
-      judged-no zero q = refused-yes SettingMissing (sym q)
-      judged-no (suc n) q = refused-broken SettingMissing (suc n) (sym q)
+      judged-no : (n : Option ℕ) → ◌≡◌ {A = Answer} (Ok n) (Refused SettingMissing) → ⊥
+      judged-no None q = refused-yes SettingMissing (sym q)
+      judged-no (Some n) q = refused-broken SettingMissing n (sym q)
 
       by : Closed b ⊎ (Lacking b ⊎ Whole b) → Lacking b
       by (inl c) =

@@ -3,22 +3,21 @@
 use mathlib.Core.Path.{refl, sym, ◌∙◌, ◌≡◌}
 use mathlib.Core.Bool.{Bool, false, false≢true, not, true, ◌&&◌}
 use mathlib.Core.Logic.{inl, inr, ◌⊎◌}
-use Prim.Native.Nat.{ℕ, suc, zero, ◌%◌, ◌*◌, ◌<◌, ◌≤◌, ◌^◌}
+use Prim.Native.Nat.{ℕ, ◌%◌, ◌*◌, ◌<◌, ◌≤◌, ◌^◌}
 use native.Mathlib.Omega.{arith}
-use borrow.Author.Tests.{le-leb, lt-leb, ltb-false, ltb-true}
+use borrow.Author.Tests.{le-leb, lt-leb, lt-ltb, ltb-false, ltb-true}
 use lib.Dec.{leb, ltb}
 use lib.Pow.{pow_mono}
 use Rattle.cmd_lora.specs.Methods.{over}
 use Rattle.locker_profile.specs.declared.Lora.{Lora}
-use Rattle.locker_profile.specs.Profile.{Broken, judged}
 use Rattle.locker_profile.specs.Rules.{spreading_factor, width, width_in, width_of}
 use Rattle.locker_profile.proofs.Rules.{spreading-factor-is, width_is}
 
 -- ---- a number between two
 
 module _ (least most v : ℕ) where
-  pub below : v < least → true ≡ not (leb least v && leb v most)
-  below h = rw (lt-leb least v h)
+  pub below : v < least → ltb v least ≡ not (leb least v && leb v most)
+  below h = rw (lt-leb least v h, lt-ltb v least h)
 
   pub beside : least ≤ v → ltb most v ≡ not (leb least v && leb v most)
   beside h = rw (le-leb least v h) (by (ltb most v) refl)
@@ -69,10 +68,3 @@ width-250 x h n = by ((width_is x).0 h)
     by : (x.lora_bw ≡ 4) ⊎ (x.lora_bw ≡ 5) → over 250000 1 ≡ width_of x.lora_bw
     by (inl e) = absurd (n e)
     by (inr e) = rw e
-
--- ---- the answer
-
--- a place that is not 0 is told
-pub broken-judged : (n : ℕ) → (n ≡ 0 → ⊥) → Broken n ≡ judged n
-broken-judged zero h = absurd (h refl)
-broken-judged (suc n) h = refl

@@ -9,7 +9,7 @@
 --     sixteen-long                a symbol of 16 ms sharp would be long,
 --     never-sharp                 but no spreading factor and width have one
 -- Assumes nothing.
-use mathlib.Core.Path.{refl, sym, ◌∙◌, ◌≡◌}
+use mathlib.Core.Path.{ap, refl, sym, ◌∙◌, ◌≡◌}
 use mathlib.Core.Bool.{Bool, cond, false, false≢true, true, ◌&&◌, ◌||◌}
 use mathlib.Core.List.{List, [], ◌∷◌}
 use mathlib.Core.Logic.{inl, inr, ◌↔◌, ◌⊎◌}
@@ -18,6 +18,7 @@ use native.Mathlib.Omega.{arith}
 use borrow.Author.Tests.{eq-eqb, eqb-true, le-leb, leb-true}
 use lib.Dec.{eqb, leb}
 use lib.ListN.{length}
+use Rattle.std.specs.Prelude.{None, Some}
 use Rattle.settings.proofs.Settings.{both}
 use Rattle.cmd_lora.specs.Codes.{lora_bw_code, lora_cr_code, sf_code}
 use Rattle.cmd_lora.specs.Methods.{Width, exact_width, over}
@@ -45,26 +46,30 @@ FirstFails i [] x = ⊥
 FirstFails zero (t ∷ ts) x = t x ≡ false
 FirstFails (suc i) (t ∷ ts) x = (t x ≡ true) × FirstFails i ts x
 
-pub kept-none : (n : ℕ) (ts : List (Lora → Bool)) (x : Lora) → AllKept ts x → first_broken n ts x ≡ 0
+some-none : (n : ℕ) → Some n ≡ None → ⊥
+some-none n e = let z : ◌≡◌ {A = ℕ} 0 1 = cc in omega arith
+
+pub kept-none : (n : ℕ) (ts : List (Lora → Bool)) (x : Lora) → AllKept ts x → first_broken n ts x ≡ None
 unfolding first_broken
 kept-none n [] x h = refl
 kept-none n (t ∷ ts) x h = rw h.0 (kept-none (suc n) ts x h.1)
 
-pub none_kept : (n : ℕ) (ts : List (Lora → Bool)) (x : Lora) → first_broken (suc n) ts x ≡ 0 → AllKept ts x
+pub none_kept : (n : ℕ) (ts : List (Lora → Bool)) (x : Lora) → first_broken n ts x ≡ None → AllKept ts x
 unfolding first_broken
 none_kept n [] x e = tt
 none_kept n (t ∷ ts) x e = by (t x) refl e (none_kept (suc n) ts x)
   where
-    by : (b : Bool) → t x ≡ b → cond b (first_broken (suc (suc n)) ts x) (suc n) ≡ 0 → (first_broken (suc (suc n)) ts x ≡ 0 → AllKept ts x)
+    by : (b : Bool) → t x ≡ b → cond b (first_broken (suc n) ts x) (Some n) ≡ None → (first_broken (suc n) ts x ≡ None → AllKept ts x)
         → (t x ≡ true) × AllKept ts x
     by true w q r = (w, r q)
-    by false w q r = absurd (omega arith)
+    by false w q r = absurd (some-none n q)
 
-pub fails-place : (n i : ℕ) (ts : List (Lora → Bool)) (x : Lora) → FirstFails i ts x → first_broken n ts x ≡ n + i
+pub fails-place : (n i : ℕ) (ts : List (Lora → Bool)) (x : Lora) → FirstFails i ts x → first_broken n ts x ≡ Some (n + i)
 unfolding first_broken
 fails-place n i [] x h = absurd h
-fails-place n zero (t ∷ ts) x h = rw h (omega arith)
-fails-place n (suc i) (t ∷ ts) x h = rw h.0 (omega (arith, fails-place (suc n) i ts x h.1))
+fails-place n zero (t ∷ ts) x h = rw h (let z : n ≡ n + 0 = omega arith in ap (λ (m : ℕ). Some m) z)
+fails-place n (suc i) (t ∷ ts) x h =
+    rw h.0 (let z : suc n + i ≡ n + suc i = omega arith in fails-place (suc n) i ts x h.1 ∙ ap (λ (m : ℕ). Some m) z)
 
 -- a test that fails first, at the place m where the list's first has the place n
 pub record Failing (n m : ℕ) (ts : List (Lora → Bool)) (x : Lora) : Type 0 where
@@ -72,22 +77,22 @@ pub record Failing (n m : ℕ) (ts : List (Lora → Bool)) (x : Lora) : Type 0 w
   pub there : m ≡ n + before
   pub fails : FirstFails before ts x
 
-pub place-fails : (n m : ℕ) (ts : List (Lora → Bool)) (x : Lora) → first_broken n ts x ≡ suc m → Failing n (suc m) ts x
+pub place-fails : (n m : ℕ) (ts : List (Lora → Bool)) (x : Lora) → first_broken n ts x ≡ Some m → Failing n m ts x
 unfolding first_broken
-place-fails n m [] x e = absurd (omega arith)
+place-fails n m [] x e = absurd (some-none m (sym e))
 place-fails n m (t ∷ ts) x e = by (t x) refl e (place-fails (suc n) m ts x)
   where
-    by : (b : Bool) → t x ≡ b → cond b (first_broken (suc n) ts x) n ≡ suc m → (first_broken (suc n) ts x ≡ suc m → Failing (suc n) (suc m) ts x)
-        → Failing n (suc m) (t ∷ ts) x
+    by : (b : Bool) → t x ≡ b → cond b (first_broken (suc n) ts x) (Some n) ≡ Some m → (first_broken (suc n) ts x ≡ Some m → Failing (suc n) m ts x)
+        → Failing n m (t ∷ ts) x
     by true w q r = let f = r q in record { before = suc f.before; there = omega (arith, f.there); fails = (w, f.fails) }
-    by false w q r = record { before = 0; there = omega arith; fails = w }
+    by false w q r = let same : n ≡ m = cc in record { before = 0; there = omega (arith, same); fails = w }
 
 pub fails-within : (i : ℕ) (ts : List (Lora → Bool)) (x : Lora) → FirstFails i ts x → i < length ts
 fails-within i [] x h = absurd h
 fails-within zero (t ∷ ts) x h = omega arith
 fails-within (suc i) (t ∷ ts) x h = omega (arith, fails-within i ts x h.1)
 
-pub place-most : (n m : ℕ) (ts : List (Lora → Bool)) (x : Lora) → first_broken n ts x ≡ suc m → (n ≤ suc m) × (suc m < n + length ts)
+pub place-most : (n m : ℕ) (ts : List (Lora → Bool)) (x : Lora) → first_broken n ts x ≡ Some m → (n ≤ m) × (m < n + length ts)
 place-most n m ts x e =
     let f = place-fails n m ts x e in
     (omega (arith, f.there), omega (arith, f.there, fails-within f.before ts x f.fails))

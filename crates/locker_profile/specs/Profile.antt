@@ -1,6 +1,6 @@
 -- The locker profile of a book (REFERENCE, "Locker profile"): whether it keeps the rules, by the frames of kinds 1, 2 and 4 that it holds.
 -- Assumes nothing.
-use Rattle.std.specs.Prelude.{ℕ, suc, zero, Bool, cond, ◌&&◌, List, [], get_or, Option, None, Some, Result, Ok, Err}
+use Rattle.std.specs.Prelude.{ℕ, Bool, cond, ◌&&◌, List, [], get_or, Option, None, Some, Result, Ok, Err}
 use Rattle.refusal.specs.declared.Refusal.{Refusal}
 use Rattle.refusal.specs.declared.Refusal.TheVariants.{SettingMissing}
 use Rattle.decoder.specs.Decoding.{Reading, decode, reading, refuses}
@@ -60,14 +60,9 @@ Broken n = Ok (Some n)
 pattern abbrev pub Refused : Refusal → Answer
 Refused x = Err x
 
--- by the place of the first broken rule: yes where there is none
-abbrev pub judged : ℕ → Answer
-judged zero = Yes
-judged (suc n) = Broken (suc n)
-
--- what the rules say of seven arguments
+-- what the rules say of seven arguments: the first that is broken, or none
 abbrev pub answered : Lora → Answer
-answered x = judged (first_broken 1 rules x)
+answered x = Ok (first_broken 1 rules x)
 
 -- all three kinds are held
 abbrev pub holds_all : List (List ℕ) → Bool

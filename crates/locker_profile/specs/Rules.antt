@@ -1,7 +1,7 @@
 -- The rules of the locker profile, over what three settings say (REFERENCE, "Locker profile"). Each is a test of its own; which one is told is
 -- the list's order.
 -- Assumes nothing.
-use Rattle.std.specs.Prelude.{ℕ, suc, ◌*◌, ◌^◌, Bool, cond, ◌&&◌, ◌||◌, List, [], ◌∷◌, eqb, leb}
+use Rattle.std.specs.Prelude.{ℕ, suc, ◌*◌, ◌^◌, Bool, cond, ◌&&◌, ◌||◌, List, [], ◌∷◌, eqb, leb, Option, None, Some}
 use Rattle.cmd_lora.specs.Codes.{header_type_code, ldro_code, lora_bw_code, lora_cr_code, sf_code}
 use Rattle.cmd_lora.specs.Methods.{Width, exact_width, over}
 use Rattle.cmd_lora.specs.declared.Sf.TheVariants.{Sf7, Sf12}
@@ -82,7 +82,7 @@ optimisation x = eqb x.ldro (due_for x)
 abbrev pub rules : List (Lora → Bool)
 rules = spreading_factor ∷ width ∷ rate ∷ header ∷ crc ∷ syncword ∷ optimisation ∷ []
 
--- the place of the first test that fails, where the list's first has the place n; 0 where none fails
-unfoldable pub first_broken : ℕ → List (Lora → Bool) → Lora → ℕ
-first_broken n [] x = 0
-first_broken n (t ∷ ts) x = cond (t x) (first_broken (suc n) ts x) n
+-- the place of the first test that fails, where the list's first has the place n; none where all hold
+unfoldable pub first_broken : ℕ → List (Lora → Bool) → Lora → Option ℕ
+first_broken n [] x = None
+first_broken n (t ∷ ts) x = cond (t x) (first_broken (suc n) ts x) (Some n)

@@ -9,7 +9,7 @@ ghost use Rattle.settings.specs.Settings.{slot_for};
 ghost use Rattle.cmd_lora.specs.Methods.{over};
 ghost use Rattle.book.specs.Book.{opened_for, Read};
 ghost use Rattle.locker_profile.specs.Rules.{due_for, first_broken, is_long, rate, rules, spreading_factor, width, width_of};
-ghost use Rattle.locker_profile.specs.Profile.{answered, answer_for, lora_from};
+ghost use Rattle.locker_profile.specs.Profile.{answer_for, lora_from};
 ghost use Rattle.locker_profile.specs.Steps.{asked_of, handed, missing_for};
 
 use cmd_lora::{HeaderType, Ldro, LoraBw, LoraCr, Sf};
@@ -88,28 +88,19 @@ fn lora_of(modulation: [u64; 9], packet: [u64; 9], sync: [u64; 9]) -> Lora
 fn breaks_spreading_factor(lora: Lora) -> bool
     ensures { result ≡ not (spreading_factor lora) }
 {
-    if lora.sf < Sf::Sf7.code() {
-        return true;
-    }
-    Sf::Sf12.code() < lora.sf
+    lora.sf < Sf::Sf7.code() || Sf::Sf12.code() < lora.sf
 }
 
 fn breaks_width(lora: Lora) -> bool
     ensures { result ≡ not (width lora) }
 {
-    if lora.lora_bw == LoraBw::Bw125.code() {
-        return false;
-    }
-    lora.lora_bw != LoraBw::Bw250.code()
+    lora.lora_bw != LoraBw::Bw125.code() && lora.lora_bw != LoraBw::Bw250.code()
 }
 
 fn breaks_rate(lora: Lora) -> bool
     ensures { result ≡ not (rate lora) }
 {
-    if lora.lora_cr < LoraCr::Cr1Ham45Si.code() {
-        return true;
-    }
-    LoraCr::Cr4Ham12Si.code() < lora.lora_cr
+    lora.lora_cr < LoraCr::Cr1Ham45Si.code() || LoraCr::Cr4Ham12Si.code() < lora.lora_cr
 }
 
 // Whether 2^sf chips, hz of them a second, last at least 16 ms: products are compared, so that nothing is rounded.
@@ -117,10 +108,7 @@ fn is_long(sf: u64, hz: u32) -> bool
     requires { sf ≤ 12 }
     ensures { result ≡ is_long sf (over hz 1) }
 {
-    if (1u64 << sf) * 1000 < 16 * (hz as u64) {
-        return false;
-    }
-    true
+    16 * (hz as u64) <= (1u64 << sf) * 1000
 }
 
 // The width of 125 or 250 kHz in Hz: both are whole numbers.
@@ -145,42 +133,32 @@ fn due(lora: Lora) -> u64
     Ldro::Off.code()
 }
 
-// The first broken rule, counted from 1; 0 where all are kept.
-fn first_broken(lora: Lora) -> usize
+// The first broken rule, counted from 1; None where all are kept.
+fn first_broken(lora: Lora) -> Option<usize>
     ensures { result ≡ first_broken 1 rules lora }
 {
     if breaks_spreading_factor(lora) {
-        return 1;
+        return Some(1);
     }
     if breaks_width(lora) {
-        return 2;
+        return Some(2);
     }
     if breaks_rate(lora) {
-        return 3;
+        return Some(3);
     }
     if lora.header_type != HeaderType::Explicit.code() {
-        return 4;
+        return Some(4);
     }
     if lora.crc_en != 1 {
-        return 5;
+        return Some(5);
     }
     if lora.syncword != 0x12 {
-        return 6;
+        return Some(6);
     }
     if lora.ldro != due(lora) {
-        return 7;
+        return Some(7);
     }
-    0
-}
-
-fn judge(lora: Lora) -> Answer
-    ensures { result ≡ answered lora }
-{
-    let n = first_broken(lora);
-    if n == 0 {
-        return Ok(None);
-    }
-    Ok(Some(n))
+    None
 }
 
 // ---- the answer
@@ -192,5 +170,5 @@ pub fn check(book: &[u8]) -> Answer
     let modulation = asked(book, 1)?;
     let packet = asked(book, 2)?;
     let sync = asked(book, 4)?;
-    judge(lora_of(modulation, packet, sync))
+    Ok(first_broken(lora_of(modulation, packet, sync)))
 }

@@ -8,7 +8,6 @@ use Rattle.std.specs.Prelude.{Ok, Option}
 use Rattle.status_list.specs.declared.Found.{Found}
 use Rattle.book.specs.Book.{Read, opened_for}
 use Rattle.controller.specs.Controller.{sending_of}
-use Rattle.controller.specs.declared.Sending.{Sending}
 use Rattle.controller.specs.declared.State.{State}
 use Rattle.control_text.specs.Text.{Closes, Short, heard, is_running, sent_of}
 use Rattle.control_text.proofs.Turns.{going_end, going-forward, going-over, going_start, going_step, going-wrong, not-running}
@@ -24,7 +23,7 @@ put_step-to-requires c =
     let forward = going-forward _ _ _ _ _ _ _ _ _ c.loop-state.invariant goes _ _ _ (sym c.next.ensures ∙ c.in-Ok-Some.is ∙ ap (λ (x : Option Found). Ok x) c.in-Ok-Some.field-0-is) in
     record {
       sent_bound = omega (arith, forward, ap sent_of c.in-Running.is);
-      short = subst (λ (x : Sending). Short x.turn) (sym c.send-sending.ensures) (all_short _ _);
+      short = subst Short (sym c.send-turn.ensures) (all_short _ _);
     }
 
 pub loop-state-smaller : goal.loop-state-smaller
@@ -40,7 +39,7 @@ loop-state-preserved c =
     let was = sym c.in-Running.is in
     let goes : is_running c.loop-state.state ≡ true = ap is_running c.in-Running.is in
     going_step _ _ _ _ _ _ _ _ _ c.loop-state.invariant goes _ _ _ (sym c.next.ensures ∙ c.in-Ok-Some.is ∙ ap (λ (x : Option Found). Ok x) c.in-Ok-Some.field-0-is)
-    _ _ _ _ _ (ap sent_of was) (c.send-sending.ensures ∙ ap (sending_of q) was) (c.hear-state.ensures ∙ ap (λ (st : State). heard q st x) was)
+    _ _ _ _ _ (ap sent_of was) (c.send-turn.ensures ∙ ap (sending_of q) was) (c.hear-state.ensures ∙ ap (λ (st : State). heard q st x) was)
     c.put_step-to.ensures
 
 pub returns-in-Ok-None : goal.returns-in-Ok-None

@@ -1,7 +1,8 @@
-use mathlib.Core.Path.{ap, sym, ◌∙◌}
+use mathlib.Core.Path.{ap, ◌∙◌}
+use Prim.Native.Nat.{ℕ}
 use borrow.Author.Rules.{rules}
+use Rattle.std.specs.Prelude.{Ok, Option}
 use Rattle.settings.specs.Settings.{slot_for}
-use Rattle.contents.specs.Contents.{Contents}
 use Rattle.book.specs.Book.{Read, opened_for}
 use Rattle.book.proofs.Calls.{handed}
 use Rattle.locker_profile.specs.Profile.{answered}
@@ -40,7 +41,7 @@ returns-in_err-sync c =
 pub returns : goal.returns
 returns c =
     let o = opened_for Read c.args.book.now in
-    c.judge.ensures
+    ap (λ (o : Option ℕ). Ok o) c.first_broken.ensures
     ∙ ap answered c.lora_of.ensures
     ∙ all-judged o _ _ _ (has 1 _ o _ c.asked.ensures c.in_ok-modulation.was)
     (has 2 _ o _ c.asked-2.ensures c.in_ok-packet.was) (has 4 _ o _ c.asked-3.ensures c.in_ok-sync.was)

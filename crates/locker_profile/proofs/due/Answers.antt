@@ -1,5 +1,4 @@
 use mathlib.Core.Path.{sym, ◌∙◌}
-use borrow.Author.Rules.{rules}
 use Rattle.locker_profile.specs.Rules.{due_for}
 use Rattle.locker_profile.proofs.Paths.{spreads-most}
 use Rattle.locker_profile.proofs.due.Goals as goal

@@ -1,6 +1,5 @@
 use mathlib.Core.Path.{ap, sym, ◌∙◌}
 use Prim.Native.Nat.{ℕ}
-use borrow.Author.Rules.{rules}
 use Rattle.cmd_lora.specs.Methods.{over}
 use Rattle.locker_profile.proofs.Paths.{width-125, width-250}
 use Rattle.locker_profile.proofs.hz_of.Goals as goal

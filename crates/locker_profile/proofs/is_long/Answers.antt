@@ -1,15 +1,13 @@
-use Prim.Native.Nat.{◌*◌, ◌^◌}
-use borrow.Author.Rules.{rules}
-use borrow.Author.Tests.{le-leb, lt-leb}
+use mathlib.Core.Path.{ap, ◌≡◌}
+use Prim.Native.Nat.{ℕ, ◌%◌, ◌*◌, ◌^◌}
 use native.Mathlib.Omega.{arith}
+use lib.Dec.{leb}
 use Rattle.locker_profile.specs.Rules.{is_long}
-use Rattle.locker_profile.proofs.Paths.{chips-are, chips-most}
+use Rattle.locker_profile.proofs.Paths.{chips-are}
 use Rattle.locker_profile.proofs.is_long.Goals as goal
-
-pub returns-then-sf-hz : goal.returns-then-sf-hz
-unfolding is_long
-returns-then-sf-hz c = rw (lt-leb (16 * c.args.hz) (2 ^ c.args.sf * 1 * 1000) (omega (arith, chips-are c.args.sf (omega arith))))
 
 pub returns : goal.returns
 unfolding is_long
-returns c = rw (le-leb (16 * c.args.hz) (2 ^ c.args.sf * 1 * 1000) (omega (arith, chips-are c.args.sf (omega arith))))
+returns c =
+    let chips : (1 * 2 ^ c.args.sf) % 18446744073709551616 ≡ 2 ^ c.args.sf * 1 = omega (arith, chips-are c.args.sf c.requires) in
+    ap (λ (n : ℕ). leb (16 * c.args.hz) (n * 1000)) chips

@@ -1,10 +1,9 @@
-use mathlib.Core.Path.{◌≡◌, ap, ◌∙◌}
+use mathlib.Core.Path.{ap, ◌∙◌}
 use mathlib.Core.List.{List}
 use Prim.Native.Nat.{ℕ, ◌≤◌}
 use native.Mathlib.Omega.{arith}
 use mir.Facts.{to_z-of_z}
 use lib.IntN.{ℤ}
-use borrow.Author.Rules.{rules}
 use lib.ListN.{length}
 use Rattle.reading.specs.Level.{text_of, snr_text}
 use Rattle.reading.proofs.Texts.{snr-length}
