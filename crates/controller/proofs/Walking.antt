@@ -87,10 +87,10 @@ module _ (reel : List ℕ) (sent at left : ℕ) (g : Seeking reel sent at left) 
       by false p false q =
           over_none (length (unreel reel).frames) sent (omega (arith, many, ltb-false 0 left p, ltb-false 0 sent q))
 
-  left_ended : Ended reel at → (a : Ahead) → a ≡ behind_of sent left → Lies reel (unreel reel).frames sent a
+  pub left_ended : Ended reel at → (a : Ahead) → a ≡ behind_of sent left → Lies reel (unreel reel).frames sent a
   left_ended e = nothing_left (ap (λ (u : Unreeled). u.frames) e.made)
 
-  left_cut : (why : _) → Cut reel at why → (a : Ahead) → a ≡ behind_of sent left → Lies reel (unreel reel).frames sent a
+  pub left_cut : (why : _) → Cut reel at why → (a : Ahead) → a ≡ behind_of sent left → Lies reel (unreel reel).frames sent a
   left_cut why k = nothing_left (ap (λ (u : Unreeled). u.frames) k.made)
 
 -- ---- what a caller learns
