@@ -268,7 +268,7 @@ fn after_line(
 }
 
 // Reads the banks of a text, or its first wrong line. Lines done are counted, and not the next one's number, which a text of the greatest length would
-// take past 64 bits.
+// take past 64 bits. `split` tells how many parts it gives and that none has a newline, and not which bytes they are: so the lines are cut here.
 pub fn read(text: &[u8]) -> Result<Listed, WrongLine>
     ensures { result ≡ listed (parsed text.now) }
 {
