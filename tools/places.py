@@ -53,7 +53,7 @@ def functions():
             yield crate, "%s:%d" % (path, line_of(text, m.start(1))), m.group(1), params, rest
 
 
-EMPTY = r"(?m)^\s*(Refused\(|Err\(|None,|Never,|Nothing,|Nowhere,|Past,|WellFormed,|UnknownOpcode,|End,|Wrong)"
+EMPTY = r"(?m)^\s*(Refused\(|Err\(|None(?: = \d+)?,|Never,|Nothing,|Nowhere,|Past,|WellFormed,|UnknownOpcode,|End,|Wrong)"
 
 
 def shapes():
@@ -63,7 +63,7 @@ def shapes():
 
 def flags():
     """1: structs with a flag, or such an enum, beside a value."""
-    names = {p.split()[-1] for _, p in shapes()}
+    names = {p.split()[-1] for _, p in shapes()} | {"Answer", "Turn"}
     found = []
     for c, p, n, body in items("struct"):
         for m in re.finditer(r"(?m)^\s*(?:pub )?(\w+): ([\w:]+),", body):
