@@ -21,21 +21,25 @@ pub fn write(b: &mut [u8], at: usize, s: &[u8])
     }
 }
 
-// Moves the m bytes from at + gap on down to `at`.
+// Moves the m bytes from at + gap on down to `at`. By a loop and not by `copy_within`, which would have the archive for C want `memmove` (README).
 pub fn slide(b: &mut [u8], at: usize, gap: usize, m: usize)
     ensures { b.new ≡ slid b.old at gap m }
 {
     if in_bounds(b.len(), at, gap, m) {
-        b.copy_within(at + gap..at + gap + m, at);
+        for i in 0..m {
+            b[at + i] = b[at + gap + i];
+        }
     }
 }
 
-// Moves the m bytes from `at` on up to at + gap. A function of its own beside `slide`: callers, docs/GUARANTEES.md and the edits name both.
+// Moves the m bytes from `at` on up to at + gap, the last one first. By a loop, as `slide`.
 pub fn slide_up(b: &mut [u8], at: usize, gap: usize, m: usize)
     ensures { b.new ≡ slid_up b.old at gap m }
 {
     if in_bounds(b.len(), at, gap, m) {
-        b.copy_within(at..at + m, at + gap);
+        for i in (0..m).rev() {
+            b[at + gap + i] = b[at + i];
+        }
     }
 }
 
