@@ -12,16 +12,18 @@ fn in_bounds(len: usize, at: usize, gap: usize, m: usize) -> bool
     at <= len && gap <= len - at && m <= len - at - gap
 }
 
-// Writes s over the bytes from `at` on.
+// Writes s over the bytes from `at` on. Like the two slides by a loop: `copy_from_slice` and `copy_within` would have the archive for C want `memmove`.
 pub fn write(b: &mut [u8], at: usize, s: &[u8])
     ensures { b.new ≡ written b.old at s.now }
 {
     if in_bounds(b.len(), at, 0, s.len()) {
-        b[at..at + s.len()].copy_from_slice(s);
+        for i in 0..s.len() {
+            b[at + i] = s[i];
+        }
     }
 }
 
-// Moves the m bytes from at + gap on down to `at`. By a loop and not by `copy_within`, which would have the archive for C want `memmove` (README).
+// Moves the m bytes from at + gap on down to `at`.
 pub fn slide(b: &mut [u8], at: usize, gap: usize, m: usize)
     ensures { b.new ≡ slid b.old at gap m }
 {
@@ -32,7 +34,7 @@ pub fn slide(b: &mut [u8], at: usize, gap: usize, m: usize)
     }
 }
 
-// Moves the m bytes from `at` on up to at + gap, the last one first. By a loop, as `slide`.
+// Moves the m bytes from `at` on up to at + gap, the last one first.
 pub fn slide_up(b: &mut [u8], at: usize, gap: usize, m: usize)
     ensures { b.new ≡ slid_up b.old at gap m }
 {
