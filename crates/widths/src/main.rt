@@ -25,13 +25,11 @@ fn answer(front: &Front, name: &[u8], text: &[u8], out: &mut [u8]) {
         front.wrong_input(name, b"more than 65536 bytes");
         return;
     }
-    let list = match bank_list::read(text) {
-        Ok(list) => list,
-        Err(wrong) => {
-            wrong_line(front, name, wrong.line, wrong.fault);
-            return;
-        }
-    };
+    let list = bank_list::read(text);
+    if let Err(wrong) = list {
+        wrong_line(front, name, wrong.line, wrong.fault);
+        return;
+    }
     let n = widths_text::answer(list, out);
     let _ = front.say(&out[0..n]);
 }

@@ -19,8 +19,9 @@ use Rattle.bank_widths.specs.Lists.{judged, right_codes, found}
 use Rattle.bank_list.specs.declared.Found.{Found}
 use Rattle.bank_list.specs.declared.Found.TheVariants.{Needs, Proposals}
 use Rattle.bank_list.specs.declared.Listed.{Listed}
+use Rattle.bank_list.specs.declared.WrongLine.{WrongLine}
 use Rattle.widths_text.specs.Text.{longest, millionths, width_in, bank_line, line_at, bank_lines, refused_text, found_text, needs_text}
-use Rattle.widths_text.specs.Text.{judged_text, proposals_text, kept_text, answer_text}
+use Rattle.widths_text.specs.Text.{judged_text, proposals_text, kept_text, answer_text, read_text}
 use Rattle.widths_text.proofs.Answers.{found-few}
 
 bank-most : (k need c : ℕ) → length (bank_line k need c) ≤ 114
@@ -75,3 +76,7 @@ answer-most l = by l.found
     by : (f : Found) → length (kept_text f l.needs l.codes) ≤ longest
     by (Needs n) = needs-most (take n l.needs)
     by (Proposals n) = proposals-most (take n l.needs) (take n l.codes)
+
+pub read-most : (r : Result Listed WrongLine) → length (read_text r) ≤ longest
+read-most (Ok l) = answer-most l
+read-most (Err w) = omega arith

@@ -8,9 +8,9 @@ ghost use Rattle.texts.specs.Written.{Puts};
 ghost use Rattle.texts.specs.Whole.{told, laid};
 ghost use Rattle.bank_widths.specs.Lists.{right_codes};
 ghost use Rattle.bank_list.specs.Banks.{most_kept};
-ghost use Rattle.widths_text.specs.Text.{longest, millionths, bank_line, line_at, bank_lines, refused_text, ServedAt, needs_text, proposals_text, answer_text};
+ghost use Rattle.widths_text.specs.Text.{longest, millionths, bank_line, line_at, bank_lines, refused_text, ServedAt, needs_text, proposals_text, read_text};
 
-use bank_list::{Found, KEPT, Listed};
+use bank_list::{Found, KEPT, Listed, WrongLine};
 use refusal::Refusal;
 use texts::{put_byte, put_form, put_text};
 
@@ -117,18 +117,22 @@ fn capped(n: usize) -> usize
     n.min(KEPT)
 }
 
-// The answer to a list of banks at the start of `out`: how long it is, 0 where the output has fewer than `LONGEST` bytes and is left alone.
-pub fn answer(list: Listed, out: &mut [u8]) -> usize
-    ensures value { result ≡ told longest (answer_text list) out.old }
-    ensures out_after { out.new ≡ laid longest (answer_text list) out.old }
+// The answer to a list of banks at the start of `out`: how long it is, 0 where a line of the list is wrong, and where the output has fewer than `LONGEST`
+// bytes and is left alone.
+pub fn answer(list: Result<Listed, WrongLine>, out: &mut [u8]) -> usize
+    ensures value { result ≡ told longest (read_text list) out.old }
+    ensures out_after { out.new ≡ laid longest (read_text list) out.old }
     ensures upper_bound { result ≤ length out.old }
 {
     if out.len() < LONGEST {
         return 0;
     }
-    let found = list.found;
-    let needs = list.needs;
-    let codes = list.codes;
+    let Ok(listed) = list else {
+        return 0;
+    };
+    let found = listed.found;
+    let needs = listed.needs;
+    let codes = listed.codes;
     match found {
         Found::Needs(n) => {
             let m = capped(n);
