@@ -117,7 +117,7 @@ fn whole_words(s: &[u8]) -> usize
 }
 
 // Reads the list and plays the book against it.
-fn answer_list(front: &Front, book: &[u8], list: Input, name: &[u8]) -> Result<(), Closed> {
+fn answer_list(front: &Front, book: &[u8], list: Option<Input>, name: &[u8]) -> Result<(), Closed> {
     let mut s = [0u8; TEXT + 1];
     let Some(read) = front.read_opened(list, name, &mut s) else {
         return Ok(());
@@ -138,14 +138,12 @@ fn answer(
     name: &[u8],
 ) -> Result<(), Closed> {
     let mut b = [0u8; BOOK];
-    let Some(read) = front.read_opened(book, book_name, &mut b) else {
+    let Some(read) = front.read_opened(Some(book), book_name, &mut b) else {
         return Ok(());
     };
     let bytes = &b[..read.have];
     if is_waiting(front, bytes)? {
-        if let Some(list) = list {
-            return answer_list(front, bytes, list, name);
-        }
+        return answer_list(front, bytes, list, name);
     }
     Ok(())
 }

@@ -449,13 +449,15 @@ impl Front<'_> {
         Ok(have)
     }
 
-    // Reads an input that was opened under this name, as far as the buffer has room, and closes it. One that cannot be read so far is said, and gives none.
-    pub fn read_opened(&self, input: Input, name: &[u8], s: &mut [u8]) -> Option<Content>
-        ensures { Drawn (Some input) s.old s.new result }
+    // Reads an input that was opened under this name, as far as the buffer has room, and closes it. One that cannot be read so far is said, and gives none;
+    // of one that was not found nothing is read.
+    pub fn read_opened(&self, input: Option<Input>, name: &[u8], s: &mut [u8]) -> Option<Content>
+        ensures { Drawn input s.old s.new result }
     {
-        let content = match self.read_whole(&input, s) {
+        let opened = input?;
+        let content = match self.read_whole(&opened, s) {
             Ok(have) => Some(Content {
-                name: input.name,
+                name: opened.name,
                 have,
             }),
             Err(why) => {
@@ -463,7 +465,7 @@ impl Front<'_> {
                 None
             }
         };
-        close(input);
+        close(opened);
         content
     }
 
@@ -479,8 +481,11 @@ impl Front<'_> {
         ensures reading { Reading arg.old arg.new s.old s.new result }
         ensures reads { Reads (place_at inputs.given inputs.mark i) arg.old arg.new s.old s.new result }
     {
-        let input = self.open(rt, inputs, i, arg)?;
-        let name = input.name;
+        let input = self.open(rt, inputs, i, arg);
+        let name = match &input {
+            Some(opened) => opened.name,
+            None => 0,
+        };
         self.read_opened(input, &arg[..name], s)
     }
 }
