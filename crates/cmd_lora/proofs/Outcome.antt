@@ -22,6 +22,9 @@ lora-bw-is-fractional-once κs a h o u p q i = (same p q i, o.1)
 lora-bw-cmp-once : Once contracts.LoraBwOrd.cmp.ended cmd_lora.LoraBwOrd.cmp.Reads.Pre cmd_lora.LoraBwOrd.cmp.Reads.Learnt
 lora-bw-cmp-once κs a h o u p q i = (same p q i, o.1)
 
+lora-bw-partial-cmp-once : Once contracts.LoraBwPartialOrd.partial_cmp.ended cmd_lora.LoraBwPartialOrd.partial_cmp.Reads.Pre cmd_lora.LoraBwPartialOrd.partial_cmp.Reads.Learnt
+lora-bw-partial-cmp-once κs a h o u p q i = (same p q i, o.1)
+
 lora-cr-code-once : Once contracts.LoraCr.code.ended cmd_lora.LoraCr.code.Reads.Pre cmd_lora.LoraCr.code.Reads.Learnt
 lora-cr-code-once κs a h o u p q i = (same p q i, o.1)
 
