@@ -28,7 +28,9 @@ pub const ACTION: u32 = 255;
 // The opcode stands in bytes 0 and 1 of every frame.
 pub const OPCODE: u32 = 0x0010_0000;
 
-// The row at a place of the table, and the last one past its end. A match on named rows: a table that is indexed is first built on the stack.
+// The row at a place of the table, and the last one past its end. A match on named rows: a table that is indexed is first built on the stack. It stays a
+// call: written out in the decoder and in each of the two builders the rows would stand in the archive for C three times.
+#[inline(never)]
 pub fn row_at(i: usize) -> [u32; 13]
     ensures { result ≡ row_at i }
 {
