@@ -76,32 +76,32 @@ fn limit_of(need: u64) -> u64
     }
 }
 
-// The keys of all listed codes but `BwAuto`, the first `count` of the array. It stays: without it each need goes through all 256 names, and 32 banks
-// take 9.2 µs instead of 2.8; and the library has no heap.
-#[derive(Drop)]
-struct ListedKeys {
-    all: [u64; 256],
-    count: usize,
-    ghost within: { count ≤ 256 },
-    ghost listed: { take count all ≡ listed_keys },
+// The keys of all listed codes but `BwAuto`, in an array that is lent: one that is handed back by value stands on the stack three times. They stay: without
+// them each need goes through all 256 names, and 32 banks take 9.2 µs instead of 2.8; and the library has no heap.
+#[derive(Clone, Copy)]
+struct ListedKeys<'a> {
+    keys: &'a [u64],
+    ghost listed: { keys.now ≡ listed_keys },
 }
 
-impl ListedKeys {
-    fn new() -> ListedKeys {
-        let names = rx_bw::rx_bw_names();
-        let mut all = [0u64; 256];
-        let mut count: usize = 0;
-        for (code, name) in names.iter().enumerate() {
-            count = put_key(&mut all, count, code as u8, *name);
-        }
-        ListedKeys { all, count }
+// Puts the keys at the front of an array, and tells how many there are.
+fn put_keys(all: &mut [u64; 256]) -> usize
+    ensures { (result ≤ 256) × (take result all.new ≡ listed_keys) }
+{
+    let names = rx_bw::rx_bw_names();
+    let mut count: usize = 0;
+    for (code, name) in names.iter().enumerate() {
+        count = put_key(all, count, code as u8, *name);
     }
+    count
+}
 
+impl ListedKeys<'_> {
     // The right code for a need, or that there is none.
-    fn choice_for(&self, need: u64) -> Option<u8>
+    fn choice_for(self, need: u64) -> Option<u8>
         ensures { result ≡ choice_for need }
     {
-        let best = greatest(&self.all[..self.count], limit_of(need))?;
+        let best = greatest(self.keys, limit_of(need))?;
         Some((best % 256) as u8)
     }
 }
@@ -109,7 +109,7 @@ impl ListedKeys {
 // ---- banks
 
 // Judges the codes bank by bank.
-fn judge(keys: &ListedKeys, needs: &[u64], codes: &[u8]) -> Result<usize, Refusal>
+fn judge(keys: ListedKeys, needs: &[u64], codes: &[u8]) -> Result<usize, Refusal>
     requires { length needs.now ≡ length codes.now }
     ensures { result ≡ judged_from 0 needs.now codes.now }
 {
@@ -123,7 +123,7 @@ fn judge(keys: &ListedKeys, needs: &[u64], codes: &[u8]) -> Result<usize, Refusa
 }
 
 // Puts the right codes at the front of `codes`, up to the first bank that cannot be served: where all can be, they stand there.
-fn put_codes(keys: &ListedKeys, needs: &[u64], codes: &mut [u8]) -> Result<usize, Refusal>
+fn put_codes(keys: ListedKeys, needs: &[u64], codes: &mut [u8]) -> Result<usize, Refusal>
     requires { length needs.now ≤ length codes.old }
     ensures value { result ≡ judged_from 0 needs.now (right_codes needs.now) }
     ensures needs_after { if_done result (take (length needs.now) codes.new) (right_codes needs.now) ≡ right_codes needs.now }
@@ -152,7 +152,9 @@ pub fn check(needs: &[u64], codes: &[u8]) -> Result<usize, Refusal>
     if !lengths_right(needs.len(), codes.len()) {
         return Err(Refusal::ListLength);
     }
-    judge(&ListedKeys::new(), needs, codes)
+    let mut all = [0u64; 256];
+    let n = put_keys(&mut all);
+    judge(ListedKeys { keys: &all[..n] }, needs, codes)
 }
 
 // Finds the right code of each bank. The codes go through a list of our own, so that a bank that cannot be served leaves `out` alone.
@@ -163,8 +165,10 @@ pub fn find(needs: &[u64], out: &mut [u8]) -> Result<usize, Refusal>
     if !lengths_right(needs.len(), out.len()) {
         return Err(Refusal::ListLength);
     }
+    let mut all = [0u64; 256];
+    let n = put_keys(&mut all);
     let mut codes = [0u8; 32];
-    let count = put_codes(&ListedKeys::new(), needs, &mut codes)?;
+    let count = put_codes(ListedKeys { keys: &all[..n] }, needs, &mut codes)?;
     spans::write(out, 0, &codes[..needs.len()]);
     Ok(count)
 }

@@ -8,7 +8,7 @@ use lib.ListN.{get_or, take}
 use Rattle.rx_bw.specs.Width.{is_named}
 use Rattle.rx_bw.proofs.Names.{names_at}
 use Rattle.bank_widths.specs.Keys.{key_of, keys_below, listed_keys}
-use Rattle.bank_widths.proofs.ListedKeys.new.Goals as goal
+use Rattle.bank_widths.proofs.put_keys.Goals as goal
 
 pub loop-code-init : goal.loop-code-init
 unfolding keys_below
@@ -29,9 +29,9 @@ loop-code-preserved c =
     let next : take l.count l.all ++ more ≡ keys_below (l.code + 1) = ap (λ (ks : List ℕ). ks ++ more) l.invariant.2 ∙ sym (ap keys_below (add-one l.code)) in
     (omega arith, p.upper_bound.1 ∙ l.invariant.1, p.keys_after ∙ next)
 
-pub invariant_of-result : goal.invariant_of-result
+pub returns : goal.returns
 unfolding listed_keys
-invariant_of-result c =
+returns c =
     let l = c.loop-code in
     let last : l.code ≡ 256 = omega arith in
-    record { within = omega arith; listed = l.invariant.2 ∙ ap keys_below last }
+    (omega arith, l.invariant.2 ∙ ap keys_below last)
