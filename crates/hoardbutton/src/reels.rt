@@ -20,31 +20,33 @@ pub struct HbStep {
     pub next: u64,
 }
 
+// A step that found no frame: it ended, or was refused. Apart from a frame, since told in one match with it a step took half as much time again.
+fn unframed(refusal: u32, ended: u32) -> HbStep
+    ensures { result ≡ record { refusal = refusal; ended = ended; start = 0; end = 0; next = 0 } }
+{
+    HbStep {
+        refusal,
+        ended,
+        start: 0,
+        end: 0,
+        next: 0,
+    }
+}
+
 fn stepped(s: Result<Option<Framed>, Refusal>) -> HbStep
     ensures { result ≡ step_c s }
 {
-    match s {
-        Ok(Some(found)) => HbStep {
-            refusal: 0,
-            ended: 0,
-            start: found.start as u64,
-            end: found.end as u64,
-            next: found.next.at as u64,
-        },
-        Ok(None) => HbStep {
-            refusal: 0,
-            ended: 1,
-            start: 0,
-            end: 0,
-            next: 0,
-        },
-        Err(why) => HbStep {
-            refusal: why.number(),
-            ended: 0,
-            start: 0,
-            end: 0,
-            next: 0,
-        },
+    let found = match s {
+        Ok(Some(found)) => found,
+        Ok(None) => return unframed(0, 1),
+        Err(why) => return unframed(why.number(), 0),
+    };
+    HbStep {
+        refusal: 0,
+        ended: 0,
+        start: found.start as u64,
+        end: found.end as u64,
+        next: found.next.at as u64,
     }
 }
 
